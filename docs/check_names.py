@@ -12,6 +12,9 @@
   text in quotes, a row of a table or an attribute, and for a clause that `rt fmt` keeps on a line,
   which has up to 112.
 - README.md says how many must-fail edits there are.
+- What a reader has to believe stands in a crate's `specs/` itself: the definitions that a top call,
+  a law or a table of READING.md needs, by their imports. All others, which only the layers tell one
+  another, stand in `specs/layers/`.
 
 It writes each fault with its place, and its status is 1 where there is one.
 """
@@ -26,6 +29,25 @@ WIDEST, WIDEST_CLAUSE = 100, 112
 LONGEST_MAP = 300
 CODE = (".rt", ".antt", ".py", ".sh", ".awk")
 FOLDERS = r"crates|docs|examples|bench|packages|src|specs|proofs|must-fail|\.ci"
+
+# The files, or folders of files, with the calls that a user reads first: of the programs, of the
+# library for C, and the laws of whole runs.
+TOP_CALLS = [
+    "pitch_tool/src/program.rt",
+    "pitch_tool/src/status.rt",
+    "live_words/src/reading.rt",
+    "live_listen/src/listening.rt",
+    "live_recovery/src/recovery.rt",
+    "live_venue/src/service.rt",
+    "watched_venue/src/watched.rt",
+    "harmed_venue/src/laws.rt",
+    "venue_plan/src/text.rt",
+    "served_laws/src",
+    "world_laws/src",
+    "live_laws/src",
+    "pitch_c/src",
+    "own_client/src",
+]
 
 faults = []
 
@@ -224,8 +246,9 @@ def words_of(paths):
 
 
 def check_reading(page):
-    """The tables of definitions: `crate` `File`: `name`. A row may leave crate and file out."""
-    crate, files = None, []
+    """The tables of definitions: `crate` `File`: `name`. A row may leave crate and file out. Returns
+    the files that they name."""
+    crate, files, read = None, [], set()
     for number, cells in page.cells(["Definition"]):
         for group in cells[0].split("; "):
             before, colon, after = group.partition(":")
@@ -236,11 +259,42 @@ def check_reading(page):
                     crate, files = name, []
                 elif path.exists():
                     files = here = [*here, path]
+                    read.add(path)
                 elif colon or name not in definitions_of(crate):
                     fault(page.path, number, f"no file or definition {name} in {crate}")
             for name in quoted(after):
                 if name not in (words_of(files) if files else definitions_of(crate)):
                     fault(page.path, number, f"no definition {name} in {crate}")
+    return read
+
+
+def imports_of(path):
+    """The files of definitions that a file imports."""
+    text = path.read_text(encoding="utf-8")
+    for crate, name in re.findall(r"\buse Rattle\.(\w+)\.specs\.((?:layers\.)?\w+)", text):
+        found = TOP / "crates" / crate / "specs" / (name.replace(".", "/") + ".antt")
+        if found.exists():
+            yield found
+
+
+def check_layers(read):
+    """Each file of definitions stands where it belongs, by what needs it."""
+    tops = [TOP / "crates" / it for it in TOP_CALLS]
+    for top in tops:
+        if not top.exists():
+            fault(TOP / "docs/check_names.py", 1, f"no {top}")
+    files = [it for top in tops for it in (top.rglob("*.rt") if top.is_dir() else [top])]
+    needed, left = set(read), [*read, *(it for it in files if it.exists())]
+    while left:
+        more = set(imports_of(left.pop())) - needed
+        needed |= more
+        left += more
+    for path in sorted(TOP.glob("crates/*/specs/**/*.antt")):
+        is_inner = path.parent.name == "layers"
+        if is_inner and path in needed:
+            fault(path, 1, "a top call needs it: it stands in specs/ itself")
+        elif not is_inner and path not in needed and path.stem not in ("Lib", "layers"):
+            fault(path, 1, "no top call needs it: it stands in specs/layers/")
 
 
 def definitions_of(crate):
@@ -334,7 +388,7 @@ def main():
             check_calls(crate, page)
         check_sources(crate.folder)
     check_map(pages[TOP / "docs/MAP.md"], crates)
-    check_reading(pages[TOP / "docs/READING.md"])
+    check_layers(check_reading(pages[TOP / "docs/READING.md"]))
     check_edits(pages[TOP / "README.md"])
     print("\n".join([*faults, f"{len(pages)} documents, {len(faults)} faults"]))
     return 1 if faults else 0

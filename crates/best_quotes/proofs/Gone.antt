@@ -17,7 +17,8 @@ use Rattle.pitch_fields.specs.declared.side.Side.TheVariants.{Buy, Sell}
 use Rattle.pitch_model.specs.Book.{Book, IsBook}
 use Rattle.pitch_model.specs.Levels.{level, best, same_side, orders_of}
 use Rattle.best_quotes.specs.Leveling.{Entries, Has, level_of, level_in, standing}
-use Rattle.best_quotes.specs.Turning.{bests_of, changes_between, no_bests, gone, HasSymbols, AreGone, Turned}
+use Rattle.best_quotes.specs.layers.Turning.{bests_of, changes_between, no_bests, gone, HasSymbols}
+use Rattle.best_quotes.specs.layers.Turning.{AreGone, Turned}
 use Rattle.best_quotes.specs.declared.levels.Sides.{Sides}
 use Rattle.best_quotes.specs.declared.quote.Quote.{Quote}
 use Rattle.best_quotes.proofs.Besting.{none_open}

@@ -12,7 +12,7 @@ use Rattle.best_quotes.specs.Changes.{changes}
 use Rattle.best_quotes.specs.Leveling.{Entries, Has}
 use Rattle.best_quotes.specs.Quoting.{numbered}
 use Rattle.best_quotes.specs.LastBest.{quoted}
-use Rattle.best_quotes.specs.Turning.{TurnsLevels, IsTurned}
+use Rattle.best_quotes.specs.layers.Turning.{TurnsLevels, IsTurned}
 use Rattle.best_quotes.specs.declared.quote.Quote.{Quote}
 use Rattle.best_quotes.specs.declared.quote.QuoteLine.{QuoteLine}
 use Rattle.best_quotes.proofs.Along.{lines_along}

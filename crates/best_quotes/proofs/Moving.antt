@@ -14,7 +14,7 @@ use Rattle.pitch_model.specs.Levels.{level}
 use Rattle.best_quotes.specs.Balance.{shares_of}
 use Rattle.order_book.specs.Naming.{names_order, named_order, touches_as, touched}
 use Rattle.order_book.proofs.Telling.{Names, IsClear, Tells, after_told}
-use Rattle.best_quotes.specs.Turning.{Moves}
+use Rattle.best_quotes.specs.layers.Turning.{Moves}
 use Rattle.order_book.specs.declared.naming.Touches.{Touches}
 use Rattle.order_book.specs.declared.naming.Touches.TheVariants as touches
 use Rattle.best_quotes.proofs.Balancing.{level_removed, level_put}

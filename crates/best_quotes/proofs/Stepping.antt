@@ -13,10 +13,10 @@ use Rattle.order_book.specs.declared.naming.Touches.{Touches}
 use Rattle.order_book.specs.declared.naming.Touches.TheVariants as touches
 use Rattle.order_book.specs.declared.turn.Turn.{Turn}
 use Rattle.order_book.specs.declared.turn.Turn.TheVariants as turn
-use Rattle.best_quotes.specs.Ladders.{IsLadder}
+use Rattle.best_quotes.specs.layers.Ladders.{IsLadder}
 use Rattle.best_quotes.specs.Leveling.{standing, Entries, Has, level_in, AreLevels}
 use Rattle.best_quotes.specs.declared.levels.Sides.{Sides}
-use Rattle.best_quotes.specs.Turning.{Becomes, AreGone}
+use Rattle.best_quotes.specs.layers.Turning.{Becomes, AreGone}
 use Rattle.best_quotes.proofs.Besting.{none_open}
 use Rattle.best_quotes.proofs.Moving.{IsTouched, touches_orders}
 use Rattle.best_quotes.proofs.Telling.{no_orders}

@@ -19,7 +19,8 @@ use Rattle.pitch_model.proofs.Prices.{best-some, best-none}
 use Rattle.best_quotes.specs.Balance.{shares_of}
 use Rattle.best_quotes.specs.Changes.{same_best, change_between, change_on, changes}
 use Rattle.best_quotes.specs.Leveling.{Entries, Has, IsOn, MovesLevels, TurnsSide, moved, standing}
-use Rattle.best_quotes.specs.Turning.{bests_of, changes_between, Becomes, Turns, TurnsOrder, IsOf, IsOfTwo}
+use Rattle.best_quotes.specs.layers.Turning.{bests_of, changes_between, Becomes, Turns, TurnsOrder}
+use Rattle.best_quotes.specs.layers.Turning.{IsOf, IsOfTwo}
 use Rattle.best_quotes.specs.declared.quote.Quote.{Quote}
 use Rattle.best_quotes.specs.declared.bests.Bests.{Bests}
 use Rattle.best_quotes.proofs.Balancing.{level_removed}

@@ -2,11 +2,10 @@ pub mod Balance
 pub mod BestFirst
 pub mod Changes
 pub mod Hearing
-pub mod Ladders
 pub mod Leveling
 pub mod Quoting
 pub mod LastBest
 pub mod QuotesText
 pub mod Stands
-pub mod Turning
 pub mod Units
+pub mod layers

@@ -5,7 +5,7 @@ ghost use Rattle.pitch_model.specs.Book.{Book, IsBook};
 ghost use Rattle.pitch_model.specs.Levels.{level};
 ghost use Rattle.best_quotes.specs.Changes.{same_best, change_between};
 ghost use Rattle.best_quotes.specs.Leveling.{Has};
-ghost use Rattle.best_quotes.specs.Turning.{bests_of, changes_between};
+ghost use Rattle.best_quotes.specs.layers.Turning.{bests_of, changes_between};
 
 use crate::levels::{Levels, best_level};
 use crate::prices::Best;

@@ -7,7 +7,7 @@ ghost use Rattle.std.specs.BTreeSet.{IsOrdered};
 ghost use Rattle.pitch_model.specs.Book.{Book, IsBook};
 ghost use Rattle.pitch_model.specs.Levels.{level};
 ghost use Rattle.best_quotes.specs.Leveling.{Has};
-ghost use Rattle.best_quotes.specs.Turning.{gone, no_bests, HasSymbols, AreGone, Turns};
+ghost use Rattle.best_quotes.specs.layers.Turning.{gone, no_bests, HasSymbols, AreGone, Turns};
 
 use crate::bests::{Bests, QuoteList, bests_of, tell_both};
 use crate::levels::Levels;

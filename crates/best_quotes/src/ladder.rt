@@ -31,7 +31,7 @@ pub struct Ladder {
 }
 
 impl Model for Ladder {
-    ghost use Rattle.best_quotes.specs.Ladders.{Ladder, IsLadder, ladder_code};
+    ghost use Rattle.best_quotes.specs.layers.Ladders.{Ladder, IsLadder, ladder_code};
 
     ghost Value = { Ladder };
 

@@ -2,7 +2,7 @@
 
 ghost use Rattle.std.specs.Prelude.{◌≡◌, ◌≤◌, ◌+◌, ◌++◌, [], length, OnOk, IsOk};
 ghost use Rattle.best_quotes.specs.Quoting.{numbered};
-ghost use Rattle.best_quotes.specs.Turning.{TurnsEach};
+ghost use Rattle.best_quotes.specs.layers.Turning.{TurnsEach};
 
 use crate::bests::QuoteList;
 use crate::levels::Levels;

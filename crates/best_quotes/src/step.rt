@@ -5,7 +5,7 @@ ghost use Rattle.std.specs.FinMap as map;
 ghost use Rattle.pitch_messages.specs.Raw.{IsRaw};
 ghost use Rattle.order_book.specs.Standing.{most_orders};
 ghost use Rattle.pitch_model.specs.Book.{IsBook, after};
-ghost use Rattle.best_quotes.specs.Turning.{Turns, TurnsLevels};
+ghost use Rattle.best_quotes.specs.layers.Turning.{Turns, TurnsLevels};
 
 use crate::bests::QuoteList;
 use crate::clearing::turn_all;

@@ -5,7 +5,7 @@ ghost use Rattle.std.specs.Ordering.{nat_cmp};
 ghost use Rattle.std.specs.Cmp.Lexicographic.{slice_cmp};
 ghost use Rattle.std.specs.declared.cmp.Ordering.TheVariants.{Less};
 ghost use Rattle.best_quotes.specs.Leveling.{IsOn, MovesLevels};
-ghost use Rattle.best_quotes.specs.Turning.{TurnsOrder, IsOf, IsOfTwo};
+ghost use Rattle.best_quotes.specs.layers.Turning.{TurnsOrder, IsOf, IsOfTwo};
 
 use crate::bests::{QuoteList, bests_of, tell, tell_both};
 use crate::levels::{Levels, turn_side};

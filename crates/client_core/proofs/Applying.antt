@@ -10,7 +10,7 @@ use Rattle.client_core.specs.Keeping.{KeepsAt}
 use Rattle.client_core.specs.Applying.{Applies}
 use Rattle.client_core.specs.Tracks.{Keeps}
 use Rattle.client_core.specs.Client.{IsStill, reached, held_number, current_book}
-use Rattle.client_core.specs.Bookkeeping.{NotesApplied, Notes, noted, turned, KeepsLogRoom}
+use Rattle.client_core.specs.layers.Bookkeeping.{NotesApplied, Notes, noted, turned, KeepsLogRoom}
 use Rattle.client_core.specs.declared.applied_log.AppliedLog.{AppliedLog}
 use Rattle.client_core.specs.declared.client.UnitClient.{UnitClient}
 use Rattle.client_core.proofs.Slices.{can_less, none_more}

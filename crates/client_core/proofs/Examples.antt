@@ -23,7 +23,7 @@ use Rattle.heard_items.specs.Heard.{heard}
 use Rattle.heard_items.specs.Changes.{image_end}
 use Rattle.heard_items.specs.declared.change.ImageEnd.TheVariants.{Taken, Bad}
 use Rattle.heard_items.specs.declared.item.Item.TheVariants as item
-use Rattle.client_core.specs.Items.{IsImage}
+use Rattle.client_core.specs.layers.Items.{IsImage}
 use Rattle.client_core.specs.Tracks.{Tracks, Keeps}
 use Rattle.client_core.specs.declared.client.UnitClient.{UnitClient}
 

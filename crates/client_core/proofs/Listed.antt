@@ -3,7 +3,7 @@ use Rattle.std.proofs.Common.{◌≡◌, List, ℕ, ◌≤◌, [], ◌++◌, Opt
 use Rattle.std.proofs.lemmas.Option.{none-some}
 use Rattle.pitch_messages.specs.Room.{Roomy}
 use Rattle.order_book.specs.declared.turn.Turn.{Turn}
-use Rattle.client_core.specs.Bookkeeping.{noted, turned, with_more, CanNote}
+use Rattle.client_core.specs.layers.Bookkeeping.{noted, turned, with_more, CanNote}
 use Rattle.client_core.specs.declared.applied_log.AppliedLog.{AppliedLog}
 use Rattle.client_core.specs.declared.applied_log.AppliedLog.TheVariants.{Off, On, Turned}
 

@@ -7,7 +7,7 @@ use Rattle.pitch_model.specs.Book.{Book, after, book_after, empty_book}
 use Rattle.order_book.specs.Turns.{turns_of}
 use Rattle.order_book.specs.declared.turn.Turn.{Turn}
 use Rattle.order_book.proofs.Turning.{turns_of-append}
-use Rattle.client_core.specs.Bookkeeping.{Notes, noted, turned, with_more}
+use Rattle.client_core.specs.layers.Bookkeeping.{Notes, noted, turned, with_more}
 use Rattle.client_core.specs.declared.applied_log.AppliedLog.{AppliedLog}
 use Rattle.client_core.proofs.Slices.{take_take, slices, no_slice, more_then, none_more}
 

@@ -115,18 +115,20 @@ impl UnitClient {
     ghost use Rattle.pitch_model.specs.Honest.{Honest, IsHonestAt, AreVenues, message_at};
     ghost use Rattle.pitch_model.specs.Reach.{is_overflow, reach};
     ghost use Rattle.pitch_model.specs.Status.{status_of};
-    ghost use Rattle.hold_buffer.specs.Holding.{IsHold};
+    ghost use Rattle.hold_buffer.specs.layers.Holding.{IsHold};
     ghost use Rattle.order_book.specs.Turns.{turns_of};
     ghost use Rattle.client_core.specs.Tracks.{Tracks, Keeps};
     ghost use Rattle.client_core.specs.Client.{IsAsBefore, IsStill, Applied};
     ghost use Rattle.client_core.specs.Client.{KeepsRoom, KeepsListRoom, current_book, held_number};
     ghost use Rattle.client_core.specs.Client.{reached, spare_of};
-    ghost use Rattle.client_core.specs.Hearing.{Hears, HearsBlock, IsToldBy, OfBlock, OfHistory};
-    ghost use Rattle.client_core.specs.Hearing.{Changes, KeepsBlock, KeepsImaged, OfReached};
-    ghost use Rattle.client_core.specs.Items.{IsImage, NeedsNoMemory, message_count};
-    ghost use Rattle.client_core.specs.Bookkeeping.{HasRoom, IsImageReady, noted, turned, Notes};
-    ghost use Rattle.client_core.specs.Bookkeeping.{CanNote, CanNoteItem, KeepsLogRoom};
-    ghost use Rattle.client_core.specs.Bookkeeping.{NotesVenues, NotesApplied, Tells};
+    ghost use Rattle.client_core.specs.layers.Hearing.{Hears, HearsBlock, IsToldBy, OfBlock};
+    ghost use Rattle.client_core.specs.layers.Hearing.{OfHistory};
+    ghost use Rattle.client_core.specs.layers.Hearing.{Changes, KeepsBlock, KeepsImaged, OfReached};
+    ghost use Rattle.client_core.specs.layers.Items.{IsImage, NeedsNoMemory, message_count};
+    ghost use Rattle.client_core.specs.layers.Bookkeeping.{HasRoom, IsImageReady, noted, turned};
+    ghost use Rattle.client_core.specs.layers.Bookkeeping.{Notes};
+    ghost use Rattle.client_core.specs.layers.Bookkeeping.{CanNote, CanNoteItem, KeepsLogRoom};
+    ghost use Rattle.client_core.specs.layers.Bookkeeping.{NotesVenues, NotesApplied, Tells};
     ghost use Rattle.client_core.specs.Keeping.{book_size};
     ghost use Rattle.client_core.specs.Weight.{weight, told_by};
 

@@ -6,7 +6,7 @@ ghost use Rattle.std.specs.List.{AllByRecursion};
 ghost use Rattle.pitch_model.specs.History.{Raw};
 ghost use Rattle.pitch_model.specs.Image.{image};
 ghost use Rattle.pitch_fields.specs.Fields.{AreBytes};
-ghost use Rattle.client_core.specs.Items.{IsImage};
+ghost use Rattle.client_core.specs.layers.Items.{IsImage};
 ghost use Rattle.client_core.specs.Tracks.{Keeps};
 ghost use Rattle.client_core.specs.Client.{KeepsRoom, held_number, reached, spare_of};
 ghost use Rattle.client_core.specs.declared.client.UnitClient.{UnitClient};

@@ -12,10 +12,10 @@ use Rattle.heard_items.specs.declared.item.Item.{Item}
 use Rattle.heard_items.specs.declared.item.Item.TheVariants as item
 use Rattle.client_core.specs.Tracks.{Tracks, Keeps}
 use Rattle.client_core.specs.Client.{IsAsBefore}
-use Rattle.client_core.specs.Items.{IsImage}
+use Rattle.client_core.specs.layers.Items.{IsImage}
 use Rattle.client_core.specs.declared.client.UnitClient.{UnitClient}
 use Rattle.spin_path.specs.Paths.{heard_all}
-use Rattle.client_end.specs.Hearing.{IsTold, HearsItems}
+use Rattle.client_end.specs.layers.Hearing.{IsTold, HearsItems}
 
 abbrev pub AreTold : List Item → Type 0
 AreTold items = AllByRecursion IsTold items

@@ -10,7 +10,7 @@ use Rattle.pitch_model.specs.declared.ask.Ask.TheVariants.{Gap, Spin}
 use Rattle.heard_items.specs.Heard.{heard_block}
 use Rattle.heard_items.specs.Units.{unit_history}
 use Rattle.client_end.specs.Came.{Came, EndSetup, EndState, Heard, GrpMade, GrpTook, GrpCut, GrpLost, SpinMade, SpinTook, SpinCut, SpinLost, Second, end_after, end_history, asks_proxy, asks_spin_server, ask_sent, end_step, to_proxy, to_spin_server}
-use Rattle.client_end.specs.Laws.{BlocksAreFollowed, IsOfLines, NoneIsAsked}
+use Rattle.client_end.specs.layers.Laws.{BlocksAreFollowed, IsOfLines, NoneIsAsked}
 
 pub blocks_are_followed : BlocksAreFollowed
 blocks_are_followed s [] = refl

@@ -26,7 +26,7 @@ use Rattle.session_ends.specs.declared.role.Said.TheVariants.{Skipped, TooShort,
 use Rattle.client_links.specs.Linking.{Lookups, link_tells}
 use Rattle.client_links.specs.Telling.{without_spare, told_of, told_said, hands_out, other_of, others, run_of, or_items, after_others, tells, until}
 use Rattle.client_end.specs.Links.{gap_link}
-use Rattle.client_end.specs.Hearing.{IsTold, IsGapTold}
+use Rattle.client_end.specs.layers.Hearing.{IsTold, IsGapTold}
 use Rattle.client_end.proofs.HeardItems.{AreTold}
 
 abbrev pub AreGapTold : List Item → Type 0

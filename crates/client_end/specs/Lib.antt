@@ -1,6 +1,5 @@
 pub mod Links
-pub mod Hearing
 pub mod Sessions
 pub mod Came
 pub mod Stands
-pub mod Laws
+pub mod layers

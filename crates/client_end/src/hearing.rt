@@ -3,7 +3,7 @@
 ghost use Rattle.std.specs.Prelude.{◌≡◌, ◌∷◌, [], ℕ, take, IsTrue, true, OnOk, OnErr};
 ghost use Rattle.heard_items.specs.Changes.{IsItem};
 ghost use Rattle.client_core.specs.Client.{IsAsBefore};
-ghost use Rattle.client_end.specs.Hearing.{HearsItems, IsTold};
+ghost use Rattle.client_end.specs.layers.Hearing.{HearsItems, IsTold};
 
 use client_core::{UnitClient, images_of_bytes_are_images};
 use heard_items::Item;

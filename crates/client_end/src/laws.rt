@@ -1,7 +1,7 @@
 //! Laws of all that comes to an end. These functions do nothing: what they ensure is proved of the
 //! definitions alone.
 
-ghost use Rattle.client_end.specs.Laws.{BlocksAreFollowed, NoneIsAsked};
+ghost use Rattle.client_end.specs.layers.Laws.{BlocksAreFollowed, NoneIsAsked};
 
 /// An end to which blocks alone came heard what `follow` hears of its unit.
 pub fn blocks_alone_are_followed()

@@ -7,7 +7,7 @@ ghost use Rattle.pitch_messages.specs.declared.session.SessionMessage.TheVariant
 ghost use Rattle.pitch_messages.specs.declared.session.SessionMessage.TheVariants.{SpinRequest};
 ghost use Rattle.session_ends.specs.Closing.{Setup};
 ghost use Rattle.session_ends.specs.Events.{Event, Fed, Ticked, Asked};
-ghost use Rattle.session_ends.specs.Happening.{Happens};
+ghost use Rattle.session_ends.specs.layers.Happening.{Happens};
 ghost use Rattle.client_links.specs.Linking.{Lookups, NoLookup, LinkStands, link_tells};
 ghost use Rattle.spin_path.specs.Paths.{heard_all};
 ghost use Rattle.client_end.specs.Links.{gap_link, spin_link};

@@ -12,9 +12,9 @@ use Rattle.session_ends.specs.declared.inbox.Heard.{Heard}
 use Rattle.session_ends.specs.declared.role.Role.{Role}
 use Rattle.session_ends.specs.Closing.{Setup, cause_of, first_cause, logged_in, logs_in}
 use Rattle.session_ends.specs.Ending.{Ending, EndKnows, known_of}
-use Rattle.session_ends.specs.Ticking.{nothing_known, known_ticked}
+use Rattle.session_ends.specs.layers.Ticking.{nothing_known, known_ticked}
 use Rattle.session_ends.specs.Events.{Event, Fed, Ticked}
-use Rattle.session_ends.specs.Hearing.{reader_items, IsThrough}
+use Rattle.session_ends.specs.layers.Hearing.{reader_items, IsThrough}
 use Rattle.session_ends.specs.Inboxes.{Inboxed}
 use Rattle.session_ends.specs.Sending.{new_items, some_bytes}
 use Rattle.session_ends.proofs.Ends.{Takes, takes, Pieced, fed_end, shut_end, known_none}

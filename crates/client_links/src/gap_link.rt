@@ -5,7 +5,7 @@ ghost use Rattle.std.specs.Prelude.{IfOk, IfSome};
 ghost use Rattle.pitch_messages.specs.declared.session.SessionMessage.TheVariants.{GapRequest};
 ghost use Rattle.session_ends.specs.declared.role.Role.TheVariants.{GapLink as LinkRole};
 ghost use Rattle.session_ends.specs.Events.{Event, Asked};
-ghost use Rattle.session_ends.specs.Happening.{Happens, OfEvents};
+ghost use Rattle.session_ends.specs.layers.Happening.{Happens, OfEvents};
 ghost use Rattle.client_links.specs.Linking.{Lookups, link_setup, login_bytes};
 ghost use Rattle.client_links.specs.Linking.{link_sends, LinkStands};
 

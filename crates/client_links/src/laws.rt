@@ -1,6 +1,6 @@
 //! The law that it makes no difference in which pieces a link's bytes come.
 
-ghost use Rattle.session_ends.specs.Laws.{ClosesOnce};
+ghost use Rattle.session_ends.specs.layers.Laws.{ClosesOnce};
 ghost use Rattle.client_links.specs.Linking.{Lookups, TellsOnce};
 
 /// The laws of cutting a session's bytes into pieces: two pieces close a link exactly where both at

@@ -8,10 +8,10 @@ ghost use Rattle.session_ends.specs.declared.closed.CloseCause.TheVariants.{Memo
 ghost use Rattle.session_ends.specs.declared.inbox.Heard.{Heard};
 ghost use Rattle.session_ends.specs.Closing.{cause_of, closed_of, first_cause, logs_in};
 ghost use Rattle.session_ends.specs.Ending.{EndKnows};
-ghost use Rattle.session_ends.specs.Ticking.{nothing_known};
+ghost use Rattle.session_ends.specs.layers.Ticking.{nothing_known};
 ghost use Rattle.session_ends.specs.Events.{Event, Fed, Ticked, Asked};
-ghost use Rattle.session_ends.specs.Happening.{Happens, OfEvents};
-ghost use Rattle.session_ends.specs.Hearing.{reader_items, IsThrough};
+ghost use Rattle.session_ends.specs.layers.Happening.{Happens, OfEvents};
+ghost use Rattle.session_ends.specs.layers.Hearing.{reader_items, IsThrough};
 ghost use Rattle.session_ends.specs.Items.{closed_at};
 ghost use Rattle.session_ends.specs.Sending.{sent_at_tick};
 ghost use Rattle.client_links.specs.Linking.{Lookups, NoLookup, link_setup, login_bytes};

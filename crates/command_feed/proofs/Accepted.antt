@@ -20,8 +20,9 @@ use Rattle.venue_core.specs.Standing.{VenueState}
 use Rattle.venue_core.specs.Stands.{Stands}
 use Rattle.venue_core.specs.declared.error.VenueError.{VenueError}
 use Rattle.venue_core.specs.declared.error.VenueError.TheVariants as venue
-use Rattle.command_feed.specs.Accepting.{IsAccepted, IsRefused, AcceptsAll, TakesSome, accepted_in, with_before}
-use Rattle.command_feed.specs.Faults.{of_text, of_venue, cause_before}
+use Rattle.command_feed.specs.layers.Accepting.{IsAccepted, IsRefused, AcceptsAll, TakesSome}
+use Rattle.command_feed.specs.layers.Accepting.{accepted_in, with_before}
+use Rattle.command_feed.specs.layers.Faults.{of_text, of_venue, cause_before}
 use Rattle.command_feed.specs.Feed.{then_accepted, accepted_after, messages_on, messages_of}
 use Rattle.command_feed.specs.declared.error.CommandError.{CommandError}
 use Rattle.command_feed.specs.declared.error.CommandError.TheVariants as errors

@@ -1,4 +1,3 @@
 pub mod Causes
 pub mod Feed
-pub mod Faults
-pub mod Accepting
+pub mod layers

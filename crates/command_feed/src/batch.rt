@@ -3,7 +3,7 @@
 ghost use Rattle.std.specs.Prelude.{◌≡◌, ◌<◌, ◌++◌, [], ◌∷◌, ◌⊎◌, List, ℕ, Err, OnOk, IfOk, IfErr};
 ghost use Rattle.std.specs.Prelude.{IsTrue, IsFalse, length};
 ghost use Rattle.text_lines.specs.Text.{all_of};
-ghost use Rattle.command_feed.specs.Accepting.{accepted_in, with_before};
+ghost use Rattle.command_feed.specs.layers.Accepting.{accepted_in, with_before};
 ghost use Rattle.command_feed.specs.declared.error.CommandError.TheVariants as errors;
 
 use crate::error::CommandError;

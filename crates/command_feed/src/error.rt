@@ -59,7 +59,7 @@ impl From<OutOfMemory> for CommandError {
 
 impl From<TextError> for CommandError {
     ghost use Rattle.std.specs.Prelude.{◌≡◌};
-    ghost use Rattle.command_feed.specs.Faults.{of_text};
+    ghost use Rattle.command_feed.specs.layers.Faults.{of_text};
 
     ghost from_gives = { λ text error. error ≡ of_text text };
 

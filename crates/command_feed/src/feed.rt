@@ -10,9 +10,10 @@ ghost use Rattle.text_lines.specs.Text.{all_of};
 ghost use Rattle.text_lines.specs.declared.fault.TextError.{TextError};
 ghost use Rattle.unit_packets.specs.Packing.{IsPacking, packed, bytes_in};
 ghost use Rattle.venue_core.specs.Stands.{Stands};
-ghost use Rattle.command_feed.specs.Accepting.{IsAccepted, IsRefused, AcceptsAll, IsVenueAfter};
-ghost use Rattle.command_feed.specs.Accepting.{TakesSome, accepted_in, with_before};
-ghost use Rattle.command_feed.specs.Faults.{of_venue, cause_before};
+ghost use Rattle.command_feed.specs.layers.Accepting.{IsAccepted, IsRefused, AcceptsAll};
+ghost use Rattle.command_feed.specs.layers.Accepting.{IsVenueAfter};
+ghost use Rattle.command_feed.specs.layers.Accepting.{TakesSome, accepted_in, with_before};
+ghost use Rattle.command_feed.specs.layers.Faults.{of_venue, cause_before};
 ghost use Rattle.command_feed.specs.Feed.{messages_of, feed_of, AppendsPacking};
 ghost use Rattle.command_feed.specs.declared.error.CommandError.TheVariants as errors;
 

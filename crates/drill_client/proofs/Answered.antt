@@ -9,13 +9,15 @@ use Rattle.pitch_model.specs.History.{Entry, Raw, Ticked, GapReply, SpinReply, a
 use Rattle.pitch_model.specs.Image.{image}
 use Rattle.pitch_model.specs.declared.ask.Ask.{Ask}
 use Rattle.gap_store.specs.Look.{View, Store, store_of, look, slice_of}
-use Rattle.gap_store.specs.Looking.{given, IsLater, PacksRange}
+use Rattle.gap_store.specs.layers.Looking.{given, IsLater, PacksRange}
 use Rattle.gap_store.specs.declared.found.Found.{Found}
 use Rattle.gap_store.specs.declared.found.Found.TheVariants.{Kept}
 use Rattle.spin_server.specs.Served.{Served, is_served}
 use Rattle.client_core.specs.declared.client.UnitClient.{UnitClient}
-use Rattle.drill_client.specs.Following.{Follows, heard_datagrams, imaged_whole}
-use Rattle.drill_client.specs.Answered.{with_tick, tick_ask, is_found, keeps_range, heard_of_gap, heard_of_spin, heard_of_ask, heard_of_copy}
+use Rattle.drill_client.specs.layers.Following.{Follows, heard_datagrams, imaged_whole}
+use Rattle.drill_client.specs.layers.Answered.{with_tick, tick_ask, is_found, keeps_range}
+use Rattle.drill_client.specs.layers.Answered.{heard_of_gap, heard_of_spin, heard_of_ask}
+use Rattle.drill_client.specs.layers.Answered.{heard_of_copy}
 
 -- ---- Ranges
 pub range_kept : (v : View) (first count : ℕ) → 1 ≤ first → 1 ≤ count → Kept ≡ look v first count → keeps_range v first count ≡ true

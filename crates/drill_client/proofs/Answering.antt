@@ -18,7 +18,7 @@ use Rattle.pitch_model.proofs.Growing.{image_more}
 use Rattle.heard_items.specs.Datagrams.{IsPiece}
 use Rattle.heard_items.proofs.Datagrams.{packing_pieces, venues_slice}
 use Rattle.gap_store.specs.Look.{View, look, slice_of}
-use Rattle.gap_store.specs.Looking.{given, PacksRange}
+use Rattle.gap_store.specs.layers.Looking.{given, PacksRange}
 use Rattle.gap_store.specs.declared.found.Found.{Found}
 use Rattle.gap_store.specs.declared.found.Found.TheVariants.{Kept}
 use Rattle.spin_server.specs.Served.{Served, is_served}
@@ -28,7 +28,7 @@ use Rattle.spin_server.specs.Stands.{ShelfStands}
 use Rattle.spin_server.specs.ShelfViews.{ShelfShows, seen_of}
 use Rattle.spin_server.specs.declared.lookup.Imaged.{Imaged}
 use Rattle.spin_server.specs.declared.lookup.Imaged.TheVariants as answers
-use Rattle.drill_client.specs.Following.{IsImageOf}
+use Rattle.drill_client.specs.layers.Following.{IsImageOf}
 
 -- ---- Gaps
 -- the datagrams of a range that is kept are pieces of the feed

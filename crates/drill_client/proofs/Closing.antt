@@ -9,9 +9,9 @@ use Rattle.pitch_model.specs.declared.ask.Ask.{Ask}
 use Rattle.pitch_model.specs.declared.ask.Ask.TheVariants.{Spin}
 use Rattle.client_core.specs.Tracks.{Tracks, Keeps}
 use Rattle.client_core.specs.declared.client.UnitClient.{UnitClient}
-use Rattle.drill_client.specs.Ending.{AsksForAll, IsAtEnd}
-use Rattle.drill_client.specs.Following.{Follows, imaged_whole}
-use Rattle.drill_client.specs.Told.{is_behind, told_all}
+use Rattle.drill_client.specs.layers.Ending.{AsksForAll, IsAtEnd}
+use Rattle.drill_client.specs.layers.Following.{Follows, imaged_whole}
+use Rattle.drill_client.specs.layers.Told.{is_behind, told_all}
 use Rattle.drill_client.proofs.Ends.{told_honest, top_told, told_current, told_status, told_below, whole_honest, whole_reach, whole_status}
 
 -- it was told of all, and is not behind

@@ -11,12 +11,12 @@ use Rattle.pitch_model.specs.Status.{raised, top_of, status_at, status_of}
 use Rattle.pitch_model.specs.Asking.{ask_of, ask_with, spin_or_gap, asks_spin, wants, gap_or_none}
 use Rattle.pitch_model.specs.declared.ask.Ask.TheVariants.{Spin}
 use Rattle.pitch_model.specs.declared.status.Status.TheVariants.{Current, Behind}
-use Rattle.pitch_model.specs.Steps.{Drains}
+use Rattle.pitch_model.specs.layers.Steps.{Drains}
 use Rattle.pitch_model.proofs.Draining.{taken_drains}
 use Rattle.pitch_model.proofs.Honesty.{honest_top}
 use Rattle.pitch_model.proofs.Topmost.{reach_le_top}
-use Rattle.drill_client.specs.Following.{imaged_whole}
-use Rattle.drill_client.specs.Told.{is_behind, told_all}
+use Rattle.drill_client.specs.layers.Following.{imaged_whole}
+use Rattle.drill_client.specs.layers.Told.{is_behind, told_all}
 
 -- ---- What a client knows once it was told of all
 told_top : (C : ℕ) (top : Option ℕ) → unwrap_or top 0 ≤ C → raised (C ∷ []) (raised ((C + 1 - 1) ∷ []) top) ≡ Some C

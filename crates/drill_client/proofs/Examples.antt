@@ -1,6 +1,6 @@
 -- Worked examples of when a drill advertises.
 use Rattle.std.proofs.Common.{◌≡◌, true, false, refl}
-use Rattle.drill_client.specs.Played.{is_round}
+use Rattle.drill_client.specs.layers.Played.{is_round}
 
 after_each_thousandth : is_round 2000 3500 ≡ true
 after_each_thousandth = refl

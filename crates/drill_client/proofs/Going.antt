@@ -18,7 +18,8 @@ use Rattle.pitch_model.specs.Honest.{Honest, AreVenues, AreImages, message_at}
 use Rattle.pitch_model.specs.Image.{image}
 use Rattle.heard_items.specs.Datagrams.{IsVenueBlock, IsPiece, heard_blocks}
 use Rattle.heard_items.specs.Heard.{heard_block, heard_messages, heard_sequenced}
-use Rattle.drill_client.specs.Following.{NoImageRuns, Follows, heard_datagrams, ImageParts, IsImageOf, imaged_whole}
+use Rattle.drill_client.specs.layers.Following.{NoImageRuns, Follows, heard_datagrams, ImageParts}
+use Rattle.drill_client.specs.layers.Following.{IsImageOf, imaged_whole}
 
 -- ---- Blocks
 module _ (V : List Raw) where

@@ -6,9 +6,12 @@ use Rattle.unit_market.specs.Views.{image_view}
 use Rattle.venue_core.specs.Losses.{is_lost}
 use Rattle.venue_core.specs.Plan.{plan}
 use Rattle.client_core.specs.declared.client.UnitClient.{UnitClient}
-use Rattle.drill_client.specs.Following.{Follows}
-use Rattle.drill_client.specs.Answered.{last_kept, heard_of_copy}
-use Rattle.drill_client.specs.Played.{command_datagrams, is_round, with_round, advertised_through, heard_on_line, heard_of_round, heard_of_command, counted_with, counted_through, plain_history}
+use Rattle.drill_client.specs.layers.Following.{Follows}
+use Rattle.drill_client.specs.layers.Answered.{last_kept, heard_of_copy}
+use Rattle.drill_client.specs.layers.Played.{command_datagrams, is_round, with_round}
+use Rattle.drill_client.specs.layers.Played.{advertised_through, heard_on_line, heard_of_round}
+use Rattle.drill_client.specs.layers.Played.{heard_of_command, counted_with, counted_through}
+use Rattle.drill_client.specs.layers.Played.{plain_history}
 
 -- ---- Rounds
 module _ (index count : ℕ) where

@@ -16,9 +16,9 @@ use Rattle.pitch_model.specs.Book.{book_after}
 use Rattle.pitch_model.specs.Levels.{shares}
 use Rattle.pitch_model.specs.declared.status.Status.TheVariants.{Current}
 use Rattle.feed_lines.specs.UnitLine.{unit_line}
-use Rattle.drill_client.specs.Ending.{whole_line}
+use Rattle.drill_client.specs.layers.Ending.{whole_line}
 use Rattle.drill_client.specs.DrillText.{drill_line}
-use Rattle.drill_client.specs.Played.{command_datagrams}
+use Rattle.drill_client.specs.layers.Played.{command_datagrams}
 
 -- a longer plan goes on after a shorter one
 pub plan_grows : (number unit index count : ℕ) → index ≤ count → plan number unit index ++ drop index (plan number unit count) ≡ plan number unit count

@@ -1,9 +1,2 @@
-pub mod Answered
 pub mod DrillText
-pub mod Limits
-pub mod Ending
-pub mod Following
-pub mod Played
-pub mod Told
-pub mod Turns
-pub mod Words
+pub mod layers

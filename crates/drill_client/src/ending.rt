@@ -4,12 +4,12 @@ ghost use Rattle.std.specs.Prelude.{◌≡◌, ◌≤◌, ◌++◌, ℕ, List, l
 ghost use Rattle.pitch_fields.specs.Limits.{last_sequence};
 ghost use Rattle.pitch_model.specs.History.{Entry, Raw};
 ghost use Rattle.pitch_model.specs.Honest.{Honest};
-ghost use Rattle.client_core.specs.Hearing.{Hears, KeepsImaged};
-ghost use Rattle.client_core.specs.Items.{IsImage};
+ghost use Rattle.client_core.specs.layers.Hearing.{Hears, KeepsImaged};
+ghost use Rattle.client_core.specs.layers.Items.{IsImage};
 ghost use Rattle.client_core.specs.Tracks.{Tracks, Keeps};
-ghost use Rattle.drill_client.specs.Ending.{AsksForAll, IsAtEnd, whole_line};
-ghost use Rattle.drill_client.specs.Following.{FollowsOn, ImageParts, IsImageOf};
-ghost use Rattle.drill_client.specs.Told.{is_behind, told_all};
+ghost use Rattle.drill_client.specs.layers.Ending.{AsksForAll, IsAtEnd, whole_line};
+ghost use Rattle.drill_client.specs.layers.Following.{FollowsOn, ImageParts, IsImageOf};
+ghost use Rattle.drill_client.specs.layers.Told.{is_behind, told_all};
 
 use crate::items::{hear_whole, hear_without_memory};
 use client_core::{UnitClient, images_of_bytes_are_images};

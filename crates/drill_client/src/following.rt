@@ -12,9 +12,9 @@ ghost use Rattle.pitch_model.specs.History.{Entry, Raw, GrpUp, SpinUp, Advertise
 ghost use Rattle.pitch_model.specs.History.{SpinReply, Ticked};
 ghost use Rattle.heard_items.specs.Datagrams.{IsVenueBlock, IsPiece, heard_blocks};
 ghost use Rattle.heard_items.specs.Heard.{heard_block};
-ghost use Rattle.drill_client.specs.Following.{Follows, heard_datagrams};
-ghost use Rattle.drill_client.specs.Following.{imaged_whole, ImageParts, FollowsWith};
-ghost use Rattle.drill_client.specs.Following.{IsImageOf};
+ghost use Rattle.drill_client.specs.layers.Following.{Follows, heard_datagrams};
+ghost use Rattle.drill_client.specs.layers.Following.{imaged_whole, ImageParts, FollowsWith};
+ghost use Rattle.drill_client.specs.layers.Following.{IsImageOf};
 
 use crate::items::{hear_whole, hear_without_memory};
 use client_core::{UnitClient, images_of_bytes_are_images};

@@ -5,8 +5,8 @@ ghost use Rattle.unit_packets.specs.Cutting.{blocks_of};
 ghost use Rattle.pitch_model.specs.History.{Entry, Advertised};
 ghost use Rattle.heard_items.specs.Datagrams.{heard_blocks};
 ghost use Rattle.venue_core.specs.Plan.{plan};
-ghost use Rattle.drill_client.specs.Following.{imaged_whole, FollowsWith};
-ghost use Rattle.drill_client.specs.Words.{heard_word, heard_reply};
+ghost use Rattle.drill_client.specs.layers.Following.{imaged_whole, FollowsWith};
+ghost use Rattle.drill_client.specs.layers.Words.{heard_word, heard_reply};
 
 use crate::following::{hear_advertised, hear_datagram, hear_gap_reply, hear_image, hear_no_image};
 use crate::run::DrillRun;

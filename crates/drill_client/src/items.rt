@@ -5,11 +5,11 @@ ghost use Rattle.pitch_model.specs.History.{Entry, Raw};
 ghost use Rattle.pitch_model.specs.Honest.{Honest};
 ghost use Rattle.heard_items.specs.Heard.{heard};
 ghost use Rattle.heard_items.specs.Changes.{IsItem};
-ghost use Rattle.client_core.specs.Hearing.{Hears, KeepsImaged};
-ghost use Rattle.client_core.specs.Items.{IsImage, NeedsNoMemory};
+ghost use Rattle.client_core.specs.layers.Hearing.{Hears, KeepsImaged};
+ghost use Rattle.client_core.specs.layers.Items.{IsImage, NeedsNoMemory};
 ghost use Rattle.client_core.specs.Tracks.{Tracks, Keeps};
 ghost use Rattle.client_core.specs.Client.{held_number, spare_of};
-ghost use Rattle.drill_client.specs.Following.{imaged_whole};
+ghost use Rattle.drill_client.specs.layers.Following.{imaged_whole};
 
 use client_core::UnitClient;
 use heard_items::Item;

@@ -8,19 +8,19 @@ ghost use Rattle.heard_items.specs.Datagrams.{IsPiece};
 ghost use Rattle.unit_packets.specs.Packing.{bytes_in};
 ghost use Rattle.venue_core.specs.Plan.{plan};
 ghost use Rattle.venue_core.specs.Planned.{most_planned};
-ghost use Rattle.drill_client.specs.Ending.{IsAtEnd};
+ghost use Rattle.drill_client.specs.layers.Ending.{IsAtEnd};
 ghost use Rattle.unit_market.specs.Markets.{Journal, MarketHas, kept_view};
 ghost use Rattle.unit_market.specs.Views.{new_journal};
 ghost use Rattle.unit_market.specs.Views.{image_view};
-ghost use Rattle.drill_client.specs.Following.{Follows, ImageParts, IsImageOf, FollowsWith};
+ghost use Rattle.drill_client.specs.layers.Following.{Follows, ImageParts, IsImageOf, FollowsWith};
 ghost use Rattle.drill_client.specs.DrillText.{drill_line};
-ghost use Rattle.drill_client.specs.Limits.{most_drilled, drill_kept};
-ghost use Rattle.drill_client.specs.Answered.{heard_of_gap, heard_of_spin, heard_of_ask};
-ghost use Rattle.drill_client.specs.Answered.{heard_of_copy, heard_after_copy};
-ghost use Rattle.drill_client.specs.Played.{command_datagrams, is_round, with_round};
-ghost use Rattle.drill_client.specs.Played.{heard_of_round};
-ghost use Rattle.drill_client.specs.Played.{heard_of_command, counted_with, plain_history};
-ghost use Rattle.drill_client.specs.Turns.{HasPlayed, IsPlaying};
+ghost use Rattle.drill_client.specs.layers.Limits.{most_drilled, drill_kept};
+ghost use Rattle.drill_client.specs.layers.Answered.{heard_of_gap, heard_of_spin, heard_of_ask};
+ghost use Rattle.drill_client.specs.layers.Answered.{heard_of_copy, heard_after_copy};
+ghost use Rattle.drill_client.specs.layers.Played.{command_datagrams, is_round, with_round};
+ghost use Rattle.drill_client.specs.layers.Played.{heard_of_round};
+ghost use Rattle.drill_client.specs.layers.Played.{heard_of_command, counted_with, plain_history};
+ghost use Rattle.drill_client.specs.layers.Turns.{HasPlayed, IsPlaying};
 
 use crate::ending::{append_end, asks_when_told_of_all, hear_all};
 use crate::following::{

@@ -4,7 +4,7 @@
 ghost use Rattle.std.specs.Prelude.{◌≡◌, ◌≤◌, length, IfOk};
 ghost use Rattle.heard_items.specs.Datagrams.{IsPiece};
 ghost use Rattle.venue_core.specs.Plan.{plan};
-ghost use Rattle.drill_client.specs.Following.{ImageParts, IsImageOf};
+ghost use Rattle.drill_client.specs.layers.Following.{ImageParts, IsImageOf};
 
 use crate::run::DrillRun;
 use pitch_fields::OutOfMemory;
@@ -76,7 +76,7 @@ pub struct Image<R: DrillRun> {
 
 impl<R: DrillRun> Model for Image<R> {
     ghost use Rattle.venue_core.specs.Plan.{plan};
-    ghost use Rattle.drill_client.specs.Following.{ImageParts, IsImageOf, image_code};
+    ghost use Rattle.drill_client.specs.layers.Following.{ImageParts, IsImageOf, image_code};
 
     ghost Value = { ImageParts };
 

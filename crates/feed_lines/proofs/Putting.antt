@@ -4,7 +4,7 @@ use Rattle.std.specs.List.{concat}
 use Rattle.std.proofs.lemmas.List.{append-nil, length-append, length-take-le, take-append-drop, drop-drop, drop_at}
 use Rattle.std.proofs.Math.Seq.{take-append_seam}
 use Rattle.pitch_fields.specs.Fields.{put_at}
-use Rattle.feed_lines.specs.Puts.{Line, with_text, with_texts, Puts}
+use Rattle.feed_lines.specs.layers.Puts.{Line, with_text, with_texts, Puts}
 use Rattle.feed_lines.proofs.Behind.{left_behind}
 
 pairs : (a b : List ℕ) (m n : ℕ) → a ≡ b → m ≡ n → ◌≡◌ {A = Line} (a, m) (b, n)

@@ -1,9 +1,8 @@
 pub mod Texts
-pub mod Puts
 pub mod StatusText
 pub mod BookText
 pub mod Follow
 pub mod Show
-pub mod Terms
 pub mod LineSize
 pub mod UnitLine
+pub mod layers

@@ -2,7 +2,7 @@
 //! where its field ends.
 
 ghost use Rattle.std.specs.Prelude.{◌≤◌, ◌+◌, [], ◌∷◌, length, codes, decimal};
-ghost use Rattle.feed_lines.specs.Puts.{Puts};
+ghost use Rattle.feed_lines.specs.layers.Puts.{Puts};
 ghost use Rattle.feed_lines.specs.Show.{number_field, price_field, hex_field, side_text, text_field};
 ghost use Rattle.feed_lines.specs.Show.{symbol_text, word};
 

@@ -5,13 +5,13 @@ ghost use Rattle.std.specs.Prelude.{Result};
 ghost use Rattle.pitch_fields.specs.Limits.{last_sequence};
 ghost use Rattle.pitch_messages.specs.Raw.{IsRaw, kind_of};
 ghost use Rattle.feed_lines.specs.LineSize.{line_size};
-ghost use Rattle.feed_lines.specs.Puts.{Puts};
+ghost use Rattle.feed_lines.specs.layers.Puts.{Puts};
 ghost use Rattle.feed_lines.specs.Show.{offset_text, id_text, quantity_text, symbol_text};
 ghost use Rattle.feed_lines.specs.Show.{word, price_text, flags_text, execution_text, kind_text};
 ghost use Rattle.feed_lines.specs.Show.{side_text, message_texts, message_text};
 ghost use Rattle.feed_lines.specs.Show.{extra_texts, said_texts, said_text, sequence_text};
 ghost use Rattle.feed_lines.specs.Show.{line_texts, message_line, next_after};
-ghost use Rattle.feed_lines.specs.Terms.{has_terms};
+ghost use Rattle.feed_lines.specs.layers.Terms.{has_terms};
 
 use crate::fields;
 use crate::lines::LINE;

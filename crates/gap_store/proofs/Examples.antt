@@ -1,7 +1,7 @@
 -- Worked examples of what can be looked up, computed by the definitions.
 use Rattle.std.proofs.Common.{◌≡◌, [], ◌∷◌, refl, Some, None}
 use Rattle.gap_store.specs.Look.{View, look, slice_of, store_of}
-use Rattle.gap_store.specs.Looking.{first_kept}
+use Rattle.gap_store.specs.layers.Looking.{first_kept}
 use Rattle.gap_store.specs.declared.found.Found.TheVariants.{Kept, Ahead, NotKept}
 
 -- five messages, the last three of which are kept

@@ -8,8 +8,8 @@ use Rattle.gap_store.specs.declared.found.Found.{Found}
 use Rattle.gap_store.specs.declared.found.Found.TheVariants.{Kept, Ahead, NotKept}
 use Rattle.circular_buffer.specs.Buffer.{keep_last}
 use Rattle.gap_store.specs.Look.{View, Store, store_of, look, slice_of, oldest}
-use Rattle.gap_store.specs.Looking.{IsLater, first_kept, given, LooksAt, FindsAt, PacksRange}
-use Rattle.gap_store.specs.Looking.{PacksAt, AnswersLook, AnswersPack}
+use Rattle.gap_store.specs.layers.Looking.{IsLater, first_kept, given, LooksAt, FindsAt, PacksRange}
+use Rattle.gap_store.specs.layers.Looking.{PacksAt, AnswersLook, AnswersPack}
 use Rattle.unit_packets.specs.Packing.{packed_on}
 
 pub keep_push : (n : ℕ) (xs : List (List ℕ)) (x : List ℕ) → keep_last n (keep_last n xs ++ x ∷ []) ≡ keep_last n (xs ++ x ∷ [])

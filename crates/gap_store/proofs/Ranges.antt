@@ -13,10 +13,10 @@ use Rattle.pitch_messages.specs.Room.{Roomy}
 use Rattle.unit_packets.specs.Blocks.{StaysWithin}
 use Rattle.unit_packets.specs.Packing.{IsPacking, packed, bytes_in}
 use Rattle.unit_packets.specs.Pushing.{Packing, HasPacked}
-use Rattle.unit_packets.specs.Packings.{Finishes, GivesPacking, unpacked}
+use Rattle.unit_packets.specs.layers.Packings.{Finishes, GivesPacking, unpacked}
 use Rattle.unit_packets.proofs.PackingAll.{SoFar, none_so_far, all_packed}
 use Rattle.unit_packets.proofs.Packs.{packed_none, bytes_append}
-use Rattle.gap_store.specs.Looking.{PacksRange}
+use Rattle.gap_store.specs.layers.Looking.{PacksRange}
 
 drop_one : (xs : List (List ℕ)) (i : ℕ) (x : List ℕ) → slice_get xs i ≡ Some x → drop i xs ≡ x ∷ drop (i + 1) xs
 drop_one xs i x is =

@@ -4,7 +4,7 @@ ghost use Rattle.std.specs.Prelude.{◌≡◌, ℕ, ◌+◌, ◌≤◌, Bool, tr
 ghost use Rattle.pitch_fields.specs.Limits.{last_sequence};
 ghost use Rattle.unit_packets.specs.Packing.{bytes_in};
 ghost use Rattle.gap_store.specs.Look.{View};
-ghost use Rattle.gap_store.specs.Looking.{LooksAt, FindsAt, PacksAt};
+ghost use Rattle.gap_store.specs.layers.Looking.{LooksAt, FindsAt, PacksAt};
 
 use pitch_fields::OutOfMemory;
 use pitch_messages::RawList;

@@ -5,11 +5,12 @@ ghost use Rattle.std.specs.Prelude.{OnErr, IfOk, length, take, drop};
 ghost use Rattle.pitch_fields.specs.Limits.{last_sequence, most_held};
 ghost use Rattle.unit_packets.specs.Blocks.{StaysWithin};
 ghost use Rattle.unit_packets.specs.Packing.{bytes_in};
-ghost use Rattle.unit_packets.specs.Packings.{unpacked};
+ghost use Rattle.unit_packets.specs.layers.Packings.{unpacked};
 ghost use Rattle.gap_store.specs.declared.found.Found.TheVariants.{Kept};
 ghost use Rattle.gap_store.specs.Look.{View, Store, store_of, look};
-ghost use Rattle.gap_store.specs.Looking.{LooksAt, FindsAt, PacksAt, PacksRange, AnswersLook};
-ghost use Rattle.gap_store.specs.Looking.{AnswersPack, first_kept};
+ghost use Rattle.gap_store.specs.layers.Looking.{LooksAt, FindsAt, PacksAt, PacksRange};
+ghost use Rattle.gap_store.specs.layers.Looking.{AnswersLook};
+ghost use Rattle.gap_store.specs.layers.Looking.{AnswersPack, first_kept};
 
 use crate::found::{Found, GapLookup};
 use circular_buffer::HeapCircularBuffer;

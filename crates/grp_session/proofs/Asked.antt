@@ -5,15 +5,15 @@ use Rattle.std.proofs.lemmas.Bool.{ne_eqb, cond-true, cond-false, lt-ltb, le-ltb
 use Rattle.gap_store.proofs.Keeping.{same_view}
 use Rattle.unit_packets.specs.Packing.{packed, packed_on}
 use Rattle.gap_store.specs.Look.{View, look, slice_of}
-use Rattle.gap_store.specs.Looking.{IsLater, given, FindsAt, PacksRange, PacksAt}
+use Rattle.gap_store.specs.layers.Looking.{IsLater, given, FindsAt, PacksRange, PacksAt}
 use Rattle.gap_store.specs.declared.found.Found.{Found}
 use Rattle.gap_store.specs.declared.found.Found.TheVariants.{Kept}
-use Rattle.session_ends.specs.Showing.{ShowsLater}
+use Rattle.session_ends.specs.layers.Showing.{ShowsLater}
 use Rattle.session_ends.proofs.Runs.{IsOrder}
 use Rattle.session_ends.proofs.Showing.{shown_same}
 use Rattle.grp_session.specs.Budget.{Limits, Spent, limit_reached, spending}
 use Rattle.grp_session.specs.Asking.{status_found, status_here}
-use Rattle.grp_session.specs.Ranges.{IsAsked}
+use Rattle.grp_session.specs.layers.Ranges.{IsAsked}
 
 later_then : (a b c : View) → IsLater a b → IsLater b c → IsLater a c
 later_then a b c p q = record {

@@ -11,7 +11,7 @@ use Rattle.pitch_messages.specs.declared.session.SessionMessage.TheVariants.{Gap
 use Rattle.unit_packets.specs.Packing.{IsPacking, packed}
 use Rattle.unit_packets.proofs.OnePacking.{packing_is_computed}
 use Rattle.gap_store.specs.Look.{View, look, slice_of}
-use Rattle.gap_store.specs.Looking.{IsLater}
+use Rattle.gap_store.specs.layers.Looking.{IsLater}
 use Rattle.gap_store.specs.declared.found.Found.{Found}
 use Rattle.gap_store.specs.declared.found.Found.TheVariants.{Kept, Ahead, NotKept}
 use Rattle.session_ends.specs.declared.inbox.Heard.{Heard}
@@ -23,10 +23,10 @@ use Rattle.session_ends.specs.Closing.{Setup, cause_of, logs_in}
 use Rattle.session_ends.specs.Saying.{heard_by}
 use Rattle.session_ends.proofs.Runs.{rises_to}
 use Rattle.grp_session.specs.Asking.{status_found, status_here, gap_status, datagrams_of}
-use Rattle.grp_session.specs.Ranges.{IsPackedRange, ArePackedRanges}
+use Rattle.grp_session.specs.layers.Ranges.{IsPackedRange, ArePackedRanges}
 use Rattle.grp_session.specs.Budget.{Limits, Spent}
 use Rattle.grp_session.specs.Serving.{request_answer, message_answer, said_answer, grp_answer}
-use Rattle.grp_session.specs.Feeding.{AreSequenced}
+use Rattle.grp_session.specs.layers.Feeding.{AreSequenced}
 use Rattle.grp_session.proofs.Asked.{later_order}
 
 -- ---- A request that is accepted

@@ -14,8 +14,8 @@ use Rattle.session_ends.specs.Saying.{heard_by}
 use Rattle.session_ends.specs.Sending.{new_items}
 use Rattle.session_ends.specs.declared.inbox.Heard.{Heard}
 use Rattle.grp_session.specs.Budget.{Limits, Spent}
-use Rattle.grp_session.specs.Feeding.{AreSequenced}
-use Rattle.grp_session.specs.Ranges.{IsPackedRange, ArePackedRanges}
+use Rattle.grp_session.specs.layers.Feeding.{AreSequenced}
+use Rattle.grp_session.specs.layers.Ranges.{IsPackedRange, ArePackedRanges}
 use Rattle.grp_session.specs.Serving.{Source, grp_answer, proxy_answer}
 use Rattle.grp_session.proofs.GapLine.{none_packed, one_more, said_lines, stops}
 use Rattle.grp_session.proofs.Pieces.{Pieces, pieces_append}

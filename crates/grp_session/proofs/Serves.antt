@@ -5,7 +5,7 @@ use Rattle.std.proofs.lemmas.Bool.{eq-eqb}
 use Rattle.pitch_messages.specs.declared.session.SessionMessage.{SessionMessage}
 use Rattle.pitch_messages.specs.declared.session.SessionMessage.TheVariants.{GapReply, GapRequest}
 use Rattle.gap_store.specs.Look.{View}
-use Rattle.gap_store.specs.Looking.{IsLater}
+use Rattle.gap_store.specs.layers.Looking.{IsLater}
 use Rattle.session_ends.specs.declared.closed.Closed.{Closed}
 use Rattle.session_ends.specs.declared.inbox.Heard.{Heard}
 use Rattle.session_ends.specs.declared.role.Said.{Said}
@@ -16,18 +16,18 @@ use Rattle.session_ends.specs.Answering.{Answer, no_answer, answers}
 use Rattle.session_ends.specs.Hearings.{Hears, HearsAll}
 use Rattle.session_ends.specs.Closing.{Setup, logged_in}
 use Rattle.session_ends.specs.Ending.{Ending, EndKnows, known_of}
-use Rattle.session_ends.specs.Ticking.{nothing_known, known_ticked}
+use Rattle.session_ends.specs.layers.Ticking.{nothing_known, known_ticked}
 use Rattle.session_ends.specs.declared.role.Role.{Role}
 use Rattle.session_ends.specs.Events.{Event, Fed, Ticked}
 use Rattle.session_ends.specs.Sending.{sent_bytes, new_items}
 use Rattle.session_ends.proofs.Ends.{Takes, Pieced, fed_end, shut_end, known_none}
 use Rattle.session_ends.proofs.Runs.{rises_rest, size_rest}
 use Rattle.grp_session.specs.Asking.{gap_status, datagrams_of}
-use Rattle.grp_session.specs.Ranges.{IsAsked}
+use Rattle.grp_session.specs.layers.Ranges.{IsAsked}
 use Rattle.grp_session.specs.Budget.{Limits, Spent}
 use Rattle.grp_session.specs.Serving.{Source, grp_answer, proxy_answer, grp_sends, ProxyStands}
 use Rattle.grp_session.specs.Serving.{request_answer, gap_answer, message_answer, said_answer}
-use Rattle.grp_session.specs.Feeding.{ProxyFeeds}
+use Rattle.grp_session.specs.layers.Feeding.{ProxyFeeds}
 use Rattle.grp_session.proofs.Asked.{later_order}
 use Rattle.grp_session.proofs.GapLine.{answered_lines, none_packed}
 

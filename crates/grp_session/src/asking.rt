@@ -3,10 +3,10 @@
 ghost use Rattle.std.specs.Prelude.{◌≡◌, ℕ, true, IfOk, ◌==◌};
 ghost use Rattle.unit_packets.specs.Packing.{bytes_in};
 ghost use Rattle.gap_store.specs.Look.{View};
-ghost use Rattle.gap_store.specs.Looking.{IsLater};
-ghost use Rattle.session_ends.specs.Showing.{ShowsLater};
+ghost use Rattle.gap_store.specs.layers.Looking.{IsLater};
+ghost use Rattle.session_ends.specs.layers.Showing.{ShowsLater};
 ghost use Rattle.grp_session.specs.Budget.{Spent, Counted};
-ghost use Rattle.grp_session.specs.Ranges.{IsAsked};
+ghost use Rattle.grp_session.specs.layers.Ranges.{IsAsked};
 
 use crate::budget::GapBudget;
 use gap_store::{Found, GapLookup};

@@ -1,10 +1,10 @@
 //! Laws of the proxy's end: pieces make no difference, and a store that stays has one view.
 
 ghost use Rattle.gap_store.specs.Look.{View};
-ghost use Rattle.gap_store.specs.Looking.{IsLater};
-ghost use Rattle.session_ends.specs.Laws.{ClosesOnce, RisesNowhere};
+ghost use Rattle.gap_store.specs.layers.Looking.{IsLater};
+ghost use Rattle.session_ends.specs.layers.Laws.{ClosesOnce, RisesNowhere};
 ghost use Rattle.grp_session.specs.Serving.{Source};
-ghost use Rattle.grp_session.specs.Feeding.{GrpAnswersOnce, StoreHasOneView};
+ghost use Rattle.grp_session.specs.layers.Feeding.{GrpAnswersOnce, StoreHasOneView};
 
 /// The laws of cutting a session's bytes into pieces: two pieces close the end exactly where both
 /// at once do, and what is answered to both at once is what is answered to the one, then to the

@@ -9,7 +9,7 @@ use Rattle.harmed_venue.specs.declared.cuts.Cuts.{Cuts}
 use Rattle.harmed_venue.specs.declared.harm.Harm.{Harm}
 use Rattle.harmed_venue.specs.Harmed.{after_sent, all_held_if, harmed, is_cut, is_due, is_put_ended, is_second, is_taken_ended, lets_go, passed_by, seconds_left, sent_on, told_if, unless_cut}
 use Rattle.harmed_venue.specs.Lines.{LineNow, let_go}
-use Rattle.harmed_venue.specs.Standing.{HarmedStands}
+use Rattle.harmed_venue.specs.layers.Standing.{HarmedStands}
 use Rattle.harmed_venue.specs.Venues.{Lists, Makes}
 use Rattle.harmed_venue.proofs.Calling.{lists_more}
 

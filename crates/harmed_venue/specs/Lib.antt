@@ -1,5 +1,4 @@
 pub mod Harmed
 pub mod Lines
-pub mod Made
-pub mod Standing
 pub mod Venues
+pub mod layers

@@ -32,7 +32,7 @@ pub(crate) enum Made<'a> {
 }
 
 impl CallLog {
-    ghost use Rattle.harmed_venue.specs.Made.{call_of};
+    ghost use Rattle.harmed_venue.specs.layers.Made.{call_of};
 
     // No call was made yet.
     pub(crate) fn new() -> CallLog

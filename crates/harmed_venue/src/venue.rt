@@ -35,7 +35,7 @@ impl<N: VenueNet> Model for HarmedVenue<N> {
 
     ghost Value = { HarmedNet N };
 
-    ghost use Rattle.harmed_venue.specs.Standing.{HarmedStands};
+    ghost use Rattle.harmed_venue.specs.layers.Standing.{HarmedStands};
 
     ghost view = { λ v. record { harm = v.harm; calls = v.log.calls; net = v.net } };
 

@@ -24,7 +24,7 @@ use Rattle.pitch_model.specs.Honest.{message_at, AreVenues, Honest}
 use Rattle.pitch_model.proofs.Growing.{slice_more, venues_more}
 use Rattle.pitch_model.proofs.Honesty.{venues_first, venues_rest}
 use Rattle.heard_items.specs.Datagrams.{heard_blocks, block_messages, IsVenueBlock, IsPiece}
-use Rattle.heard_items.specs.DatagramCounts.{messages_in, fresh_in, overflows_in, changes_in}
+use Rattle.heard_items.specs.layers.DatagramCounts.{messages_in, fresh_in, overflows_in, changes_in}
 use Rattle.heard_items.specs.Heard.{heard_block, heard_messages, heard_sequenced, block_fresh}
 use Rattle.heard_items.specs.Heard.{block_overflows, fresh_messages, overflowed_messages}
 use Rattle.heard_items.specs.Changes.{block_change}

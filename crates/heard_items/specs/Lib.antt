@@ -3,4 +3,4 @@ pub mod Heard
 pub mod Changes
 pub mod Units
 pub mod Datagrams
-pub mod DatagramCounts
+pub mod layers

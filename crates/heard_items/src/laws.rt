@@ -17,7 +17,8 @@ ghost use Rattle.pitch_model.specs.History.{Entry, Raw, SpinFinished, spin_of, i
 ghost use Rattle.pitch_model.specs.Honest.{AreVenues, Honest};
 ghost use Rattle.heard_items.specs.declared.item.Item.{Item};
 ghost use Rattle.heard_items.specs.Datagrams.{heard_blocks, IsPiece};
-ghost use Rattle.heard_items.specs.DatagramCounts.{messages_in, fresh_in, overflows_in, changes_in};
+ghost use Rattle.heard_items.specs.layers.DatagramCounts.{messages_in, fresh_in, overflows_in};
+ghost use Rattle.heard_items.specs.layers.DatagramCounts.{changes_in};
 ghost use Rattle.heard_items.specs.Heard.{heard, heard_block, heard_messages};
 ghost use Rattle.pitch_model.specs.Reach.{reach, is_held, held_count, since_overflow};
 ghost use Rattle.pitch_model.specs.Status.{status_of, top_of};

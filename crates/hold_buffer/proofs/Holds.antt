@@ -7,7 +7,7 @@ use Rattle.std.specs.FinMap.{get, contains_key, insert, remove, len, empty, get-
 use Rattle.std.proofs.lemmas.Bool.{and_parts, cond-false, false≢true, both_ways, ltb-true, cases_eq}
 use Rattle.std.proofs.lemmas.Bool.Decides.{nat_tests}
 use Rattle.hold_buffer.specs.HoldView.{HoldView, Held}
-use Rattle.hold_buffer.specs.Holding.{IsHold}
+use Rattle.hold_buffer.specs.layers.Holding.{IsHold}
 use Rattle.hold_buffer.proofs.Finite.{contains_retained, len_le}
 use Rattle.pitch_fields.proofs.Keys.{same_test}
 

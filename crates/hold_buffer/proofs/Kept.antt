@@ -7,9 +7,9 @@ use Rattle.std.specs.Option.{option_eq, option_map}
 use Rattle.std.proofs.lemmas.Bool.{both_ways, false≢true, eqb-true}
 use Rattle.std.proofs.lemmas.Bool.Decides.{nat_tests}
 use Rattle.circular_buffer.specs.Buffer.{Buffer, buffer}
-use Rattle.hold_buffer.specs.Holding.{IsHold}
-use Rattle.hold_buffer.specs.Offered.{Answers}
-use Rattle.hold_buffer.specs.Places.{IsGap, IsRising, hold_of, IsHoldRing}
+use Rattle.hold_buffer.specs.layers.Holding.{IsHold}
+use Rattle.hold_buffer.specs.layers.Offered.{Answers}
+use Rattle.hold_buffer.specs.layers.Places.{IsGap, IsRising, hold_of, IsHoldRing}
 use Rattle.hold_buffer.specs.declared.hold.Offer.TheVariants.{Overflowed, Kept}
 use Rattle.hold_buffer.proofs.Viewed.{len_view}
 use Rattle.hold_buffer.proofs.Holds.{hold_next, hold_kept, hold_alone, hold_popped, hold_jumped, contains_empty, get_none}

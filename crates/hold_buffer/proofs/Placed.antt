@@ -11,7 +11,7 @@ use Rattle.std.proofs.lemmas.List.{map-append, take-map, drop-map, length-map}
 use Rattle.std.proofs.lemmas.Option.{slice_get-map}
 use Rattle.circular_buffer.specs.Buffer.{Buffer, buffer}
 use Rattle.slab.specs.Slab.{Slab, get, ContainsKey, Updates, slab_len}
-use Rattle.hold_buffer.specs.Places.{IsRising, IsKeyAt, IsGap, message_at, ring_of, IsRingOf}
+use Rattle.hold_buffer.specs.layers.Places.{IsRising, IsKeyAt, IsGap, message_at, ring_of, IsRingOf}
 
 -- ---- lists
 module _ {X Y : Type 0} (f : X → Y) where

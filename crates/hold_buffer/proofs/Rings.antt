@@ -19,7 +19,7 @@ use Rattle.circular_buffer.proofs.Places.{slice_get-some}
 use Rattle.std.proofs.lemmas.Bool.Decides.{nat_tests}
 use Rattle.pitch_fields.proofs.Keys.{same_test, greater}
 use Rattle.hold_buffer.proofs.Viewed.{get_view, inserted, removed, retained}
-use Rattle.hold_buffer.specs.Places.{IsKeyAt, IsGap}
+use Rattle.hold_buffer.specs.layers.Places.{IsKeyAt, IsGap}
 
 less : (a b : ℕ) → a < b → nat_cmp a b ≡ Less
 less a b h = sym (nat_cmp_is a b Less h)

@@ -1,4 +1,2 @@
 pub mod HoldView
-pub mod Holding
-pub mod Offered
-pub mod Places
+pub mod layers

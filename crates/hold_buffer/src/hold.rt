@@ -6,9 +6,9 @@ ghost use Rattle.std.specs.Option.{option_copied};
 ghost use Rattle.std.specs.FinMap as map;
 ghost use Rattle.pitch_fields.specs.Limits.{last_sequence, most_held};
 ghost use Rattle.pitch_messages.specs.Raw.{IsRaw};
-ghost use Rattle.hold_buffer.specs.Holding.{IsHold};
-ghost use Rattle.hold_buffer.specs.Offered.{Answers};
-ghost use Rattle.hold_buffer.specs.Places.{IsRising, hold_of, IsHoldRing};
+ghost use Rattle.hold_buffer.specs.layers.Holding.{IsHold};
+ghost use Rattle.hold_buffer.specs.layers.Offered.{Answers};
+ghost use Rattle.hold_buffer.specs.layers.Places.{IsRising, hold_of, IsHoldRing};
 
 use crate::ring::Ring;
 use pitch_fields::OutOfMemory;
@@ -45,8 +45,8 @@ pub struct Hold {
 
 impl Model for Hold {
     ghost use Rattle.hold_buffer.specs.HoldView.{HoldView};
-    ghost use Rattle.hold_buffer.specs.Holding.{coded_hold};
-    ghost use Rattle.hold_buffer.specs.Places.{hold_of, IsHoldRing};
+    ghost use Rattle.hold_buffer.specs.layers.Holding.{coded_hold};
+    ghost use Rattle.hold_buffer.specs.layers.Places.{hold_of, IsHoldRing};
 
     ghost Value = { HoldView };
 

@@ -4,7 +4,7 @@ ghost use Rattle.std.specs.Prelude.{◌≡◌, ◌==◌, ℕ, ◌<◌, ◌≤◌
 ghost use Rattle.std.specs.Prelude.{drop, insert, filter, nat_lt, IfOk, IfErr, slice_get};
 ghost use Rattle.std.specs.Option.{option_map};
 ghost use Rattle.circular_buffer.specs.Buffer.{buffer};
-ghost use Rattle.hold_buffer.specs.Places.{IsRising, IsKeyAt, IsGap};
+ghost use Rattle.hold_buffer.specs.layers.Places.{IsRising, IsKeyAt, IsGap};
 
 use circular_buffer::HeapCircularBuffer;
 use pitch_fields::OutOfMemory;
@@ -29,7 +29,7 @@ impl Model for Ring {
     ghost use Rattle.std.specs.Prelude.{ℕ, List};
     ghost use Rattle.std.specs.Coded.{coded×, coded_ℕ, coded_list};
     ghost use Rattle.circular_buffer.specs.Buffer.{Buffer, buffer_code};
-    ghost use Rattle.hold_buffer.specs.Places.{ring_of, IsRingOf};
+    ghost use Rattle.hold_buffer.specs.layers.Places.{ring_of, IsRingOf};
 
     ghost Value = { Buffer (ℕ × List ℕ) };
 

@@ -4,7 +4,7 @@ ghost use Rattle.std.specs.Prelude.{◌≡◌, ◌+◌, ◌<◌, ◌≤◌, ◌^
 ghost use Rattle.std.specs.Prelude.{OnOk, OnErr, IfOk, IfErr, IfNone, Err, Some, None, slice_get};
 ghost use Rattle.std.specs.Prelude.{nat_lt, ◌==◌, ◌&&◌, if◌then◌else◌};
 ghost use Rattle.unit_packets.specs.Cutting.{blocks_of, rest_of};
-ghost use Rattle.line_arbiter.specs.Delivered.{Delivers, datagram_fault};
+ghost use Rattle.line_arbiter.specs.layers.Delivered.{Delivers, datagram_fault};
 ghost use Rattle.line_arbiter.specs.Noted.{Note, HasNoted, line_place, line_count};
 
 use crate::count::{LineCount, counted_more};

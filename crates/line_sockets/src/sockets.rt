@@ -31,7 +31,7 @@ pub struct LineSockets<R, I> {
 }
 
 impl<R, I> Model for LineSockets<R, I> {
-    ghost use Rattle.line_sockets.specs.Opening.{OpenLines};
+    ghost use Rattle.line_sockets.specs.layers.Opening.{OpenLines};
 
     ghost Value = { OpenLines };
 

@@ -14,7 +14,7 @@ use Rattle.live_net.specs.declared.live.PeerTaken.TheVariants as taken
 use Rattle.live_net.specs.declared.live.PeerPut.TheVariants as put
 use Rattle.live_turns.specs.Due.{room_for_one}
 use Rattle.unit_commands.specs.Pieces.{counted_lines, last_line, line_feeds, rest_limit, whole_lines}
-use Rattle.unit_commands.specs.PiecesLaws.{EndsLine, line_later}
+use Rattle.unit_commands.specs.layers.PiecesLaws.{EndsLine, line_later}
 use Rattle.unit_commands.specs.UnitCommands.{unit_command, unit_command_entry}
 use Rattle.unit_commands.specs.declared.unit_command.UnitCommandEntry.{UnitCommandEntry}
 use Rattle.unit_commands.proofs.CutLemmas.{behind_none, behind_some, ends, grown, joined, rest_again, sum_behind, whole_counts}
@@ -31,7 +31,7 @@ use Rattle.venue_turns.specs.Due.{Ends, IsMade, is_read}
 use Rattle.venue_turns.specs.declared.due.Due.{Due}
 use Rattle.venue_turns.specs.declared.due.Due.TheVariants as to
 use Rattle.venue_units.specs.Coming.{UnitCame, came_to, state_at, to_unit}
-use Rattle.venue_units.specs.Laws.{accepted_of, commands_in}
+use Rattle.venue_units.specs.layers.Laws.{accepted_of, commands_in}
 use Rattle.venue_units.specs.Places.{is_spin}
 use Rattle.venue_units.proofs.Messages.{messages_are_the_commands}
 use Rattle.live_venue.specs.Input.{Heard, all_heard, at_index, faulty, index_of, lines_heard, lines_read, next_heard, piece_heard, refusal_at, rest_heard, said_heard, told_line, unless_refused}

@@ -27,7 +27,7 @@ use Rattle.live_net.specs.LineCalls.{LineCall, Receive, AddsCall}
 use Rattle.live_net.specs.declared.net.Received.TheVariants as received
 use Rattle.live_listen.specs.Counting.{is_stray, counts_of}
 use Rattle.live_listen.specs.Due.{due, Receives, AreDue}
-use Rattle.live_listen.specs.Failures.{unheard}
+use Rattle.live_listen.specs.layers.Failures.{unheard}
 use Rattle.live_listen.specs.Heard.{datagrams_of, heard_in, blocks_heard}
 use Rattle.live_listen.specs.Listening.{Setup, AddsRun, heard_of, lines_shown, BeginsText, HasFailed, IsOver, ListenEnds}
 use Rattle.live_listen.specs.Standing.{Devices, Stands, Steps, NamesNoDevice}

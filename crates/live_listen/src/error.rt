@@ -38,7 +38,7 @@ impl From<OutOfMemory> for ListenError {
 
 impl From<PrintError> for ListenError {
     ghost use Rattle.std.specs.Prelude.{◌≡◌};
-    ghost use Rattle.live_listen.specs.Failures.{unheard};
+    ghost use Rattle.live_listen.specs.layers.Failures.{unheard};
 
     ghost from_gives = { λ printing error. error ≡ unheard printing };
 

@@ -1,10 +1,11 @@
 -- Worked examples of what a script answers.
 use Rattle.std.proofs.Common.{◌≡◌, false, [], ◌∷◌, Some, None, refl}
 use Rattle.live_net.specs.LiveCalls.{Wait, Open, AddsLiveCall, taken_in}
-use Rattle.live_net.specs.LiveScripts.{Turn, Second, Comes, Refuses, Brings, Ends, HasRoom}
-use Rattle.live_net.specs.LiveScripts.{wait_end_at, after_live_wait, next_datagram, after_datagram}
-use Rattle.live_net.specs.LiveScripts.{opened_at, brought, taken_at, after_take}
-use Rattle.live_net.specs.LiveScripts.{put_at, after_put}
+use Rattle.live_net.specs.layers.LiveScripts.{Turn, Second, Comes, Refuses, Brings, Ends, HasRoom}
+use Rattle.live_net.specs.layers.LiveScripts.{wait_end_at, after_live_wait, next_datagram}
+use Rattle.live_net.specs.layers.LiveScripts.{after_datagram}
+use Rattle.live_net.specs.layers.LiveScripts.{opened_at, brought, taken_at, after_take}
+use Rattle.live_net.specs.layers.LiveScripts.{put_at, after_put}
 use Rattle.live_net.specs.declared.live.WaitEnd.TheVariants as wait_end
 use Rattle.live_net.specs.declared.live.PeerOpened.TheVariants as opened
 use Rattle.live_net.specs.declared.live.PeerTaken.TheVariants as taken

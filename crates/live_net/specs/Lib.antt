@@ -1,4 +1,3 @@
 pub mod LineCalls
 pub mod LiveCalls
-pub mod LiveScripts
-pub mod Scripts
+pub mod layers

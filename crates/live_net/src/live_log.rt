@@ -2,7 +2,7 @@
 
 ghost use Rattle.std.specs.Prelude.{◌≡◌, None, false};
 ghost use Rattle.live_net.specs.LiveCalls.{Put, Receive, Take};
-ghost use Rattle.live_net.specs.LiveScripts.{LeavesLiveCalls, live_call_of, live_calls_of};
+ghost use Rattle.live_net.specs.layers.LiveScripts.{LeavesLiveCalls, live_call_of, live_calls_of};
 
 use crate::live::{PeerOpened, PeerPut, PeerTaken, WaitEnd};
 use crate::net::Received;

@@ -3,10 +3,11 @@
 ghost use Rattle.std.specs.Prelude.{◌≡◌, ◌<◌, drop, length, min, take};
 ghost use Rattle.live_net.specs.LineCalls.{ReceiveFailed, ReceivedWithin};
 ghost use Rattle.live_net.specs.LiveCalls.{PeerTakenWithin, taken_in};
-ghost use Rattle.live_net.specs.LiveScripts.{after_datagram, after_live_wait, after_open};
-ghost use Rattle.live_net.specs.LiveScripts.{after_put, after_take, brought, next_datagram};
-ghost use Rattle.live_net.specs.Scripts.{IsAnswer};
-ghost use Rattle.live_net.specs.LiveScripts.{opened_at, put_at, steps_of, taken_at, wait_end_at};
+ghost use Rattle.live_net.specs.layers.LiveScripts.{after_datagram, after_live_wait, after_open};
+ghost use Rattle.live_net.specs.layers.LiveScripts.{after_put, after_take, brought, next_datagram};
+ghost use Rattle.live_net.specs.layers.Scripts.{IsAnswer};
+ghost use Rattle.live_net.specs.layers.LiveScripts.{opened_at, put_at, steps_of, taken_at};
+ghost use Rattle.live_net.specs.layers.LiveScripts.{wait_end_at};
 
 use crate::live::{PeerOpened, PeerPut, PeerTaken, WaitEnd};
 use crate::net::Received;
@@ -40,7 +41,7 @@ pub struct LiveScript {
 
 impl Model for LiveScript {
     ghost use Rattle.std.specs.Prelude.{List};
-    ghost use Rattle.live_net.specs.LiveScripts.{Step, steps_of};
+    ghost use Rattle.live_net.specs.layers.LiveScripts.{Step, steps_of};
 
     ghost Value = { List Step };
 

@@ -7,8 +7,9 @@ ghost use Rattle.std.specs.Global.{Vec as VecOf};
 ghost use Rattle.pitch_io.specs.Causes.{HasCause};
 ghost use Rattle.live_net.specs.LineCalls.{Wait, Receive, AddsCall, WaitFailed};
 ghost use Rattle.live_net.specs.LineCalls.{ReceiveFailed, ReceivedWithin, datagram_in};
-ghost use Rattle.live_net.specs.Scripts.{IsNextCall, IsAnswer, LeavesCalls, next_on, woken_at};
-ghost use Rattle.live_net.specs.Scripts.{after_receive, after_wait, call_of, calls_of};
+ghost use Rattle.live_net.specs.layers.Scripts.{IsNextCall, IsAnswer, LeavesCalls, next_on};
+ghost use Rattle.live_net.specs.layers.Scripts.{woken_at};
+ghost use Rattle.live_net.specs.layers.Scripts.{after_receive, after_wait, call_of, calls_of};
 
 use crate::net::{LineNet, Received, Woken};
 use std::alloc::Global;
@@ -73,7 +74,7 @@ pub struct MemoryLines {
 }
 
 impl Model for MemoryLines {
-    ghost use Rattle.live_net.specs.Scripts.{Scripted, calls_of};
+    ghost use Rattle.live_net.specs.layers.Scripts.{Scripted, calls_of};
 
     ghost Value = { Scripted };
 

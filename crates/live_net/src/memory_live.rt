@@ -8,12 +8,12 @@ ghost use Rattle.live_net.specs.LineCalls.{ReceiveFailed, ReceivedWithin, datagr
 ghost use Rattle.live_net.specs.LiveCalls.{Wait, Receive, Open, Take, Put, Close, AddsLiveCall};
 ghost use Rattle.live_net.specs.LiveCalls.{WaitEndFailed, PeerTakenWithin, PeerPutWithin};
 ghost use Rattle.live_net.specs.LiveCalls.{taken_in};
-ghost use Rattle.live_net.specs.Scripts.{IsAnswer};
-ghost use Rattle.live_net.specs.LiveScripts.{IsNextLiveCall, LeavesLiveCalls, live_call_of};
-ghost use Rattle.live_net.specs.LiveScripts.{steps_of};
-ghost use Rattle.live_net.specs.LiveScripts.{wait_end_at, after_live_wait, next_datagram};
-ghost use Rattle.live_net.specs.LiveScripts.{after_datagram, opened_at, after_open, brought};
-ghost use Rattle.live_net.specs.LiveScripts.{taken_at, after_take, put_at, after_put};
+ghost use Rattle.live_net.specs.layers.Scripts.{IsAnswer};
+ghost use Rattle.live_net.specs.layers.LiveScripts.{IsNextLiveCall, LeavesLiveCalls, live_call_of};
+ghost use Rattle.live_net.specs.layers.LiveScripts.{steps_of};
+ghost use Rattle.live_net.specs.layers.LiveScripts.{wait_end_at, after_live_wait, next_datagram};
+ghost use Rattle.live_net.specs.layers.LiveScripts.{after_datagram, opened_at, after_open, brought};
+ghost use Rattle.live_net.specs.layers.LiveScripts.{taken_at, after_take, put_at, after_put};
 
 use crate::live::{LiveNet, PeerOpened, PeerPut, PeerTaken, WaitEnd};
 use crate::live_log::{KeptLiveCall, LiveLog};
@@ -41,7 +41,7 @@ pub struct MemoryLive {
 }
 
 impl Model for MemoryLive {
-    ghost use Rattle.live_net.specs.LiveScripts.{ScriptedLive, live_calls_of};
+    ghost use Rattle.live_net.specs.layers.LiveScripts.{ScriptedLive, live_calls_of};
 
     ghost Value = { ScriptedLive };
 

@@ -18,7 +18,7 @@ use Rattle.live_units.specs.declared.error.LiveError.TheVariants as live
 use Rattle.live_units.specs.declared.units.LiveUnits.{LiveUnits}
 use Rattle.live_units.proofs.Hearing.{heard_begun, heard_none}
 use Rattle.live_recovery.specs.Disagreeing.{first_disagreement}
-use Rattle.live_recovery.specs.Failures.{unheard}
+use Rattle.live_recovery.specs.layers.Failures.{unheard}
 use Rattle.live_recovery.specs.Recovering.{AddsRun, HasFailed, RecoverEnds}
 use Rattle.live_recovery.specs.Running.{Brings, Now, Runs, Setup, at_first, ends_now, had_come}
 use Rattle.live_recovery.specs.Standing.{Agree, Devices, FailsHearing, IsAbout, IsAtEnd, NamesNoDevice, Stands, Steps, now_of}

@@ -1,6 +1,6 @@
 pub mod Counting
 pub mod Disagreeing
-pub mod Failures
 pub mod Recovering
 pub mod Running
 pub mod Standing
+pub mod layers

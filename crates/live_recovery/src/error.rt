@@ -42,7 +42,7 @@ impl From<OutOfMemory> for RecoverError {
 
 impl From<LiveError> for RecoverError {
     ghost use Rattle.std.specs.Prelude.{◌≡◌};
-    ghost use Rattle.live_recovery.specs.Failures.{unheard};
+    ghost use Rattle.live_recovery.specs.layers.Failures.{unheard};
 
     ghost from_gives = { λ live error. error ≡ unheard live };
 

@@ -2,7 +2,7 @@
 use Rattle.std.proofs.Common.{◌≡◌, ℕ, ◌≤◌, ◌+◌, List, ◌++◌, [], ◌∷◌, length, map, set, Bool, replicate, false, ap, ◌∙◌, arith}
 use Rattle.std.proofs.lemmas.List.{map-set, map-append, set_past, length-map, replicate_more}
 use Rattle.live_sockets.specs.declared.peers.Peer.{Peer}
-use Rattle.live_sockets.specs.OpenPeers.{is_connected}
+use Rattle.live_sockets.specs.layers.OpenPeers.{is_connected}
 
 -- one of them is changed
 pub changed : (peers : List Peer) (i : ℕ) (peer : Peer) → map is_connected (set peers i peer) ≡ set (map is_connected peers) i (is_connected peer)

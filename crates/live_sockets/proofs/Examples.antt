@@ -3,8 +3,8 @@ use Rattle.std.proofs.Common.{◌≡◌, true, false, [], ◌∷◌, Some, None,
 use Rattle.std.specs.declared.io.ErrorKind.TheVariants.{Interrupted, WouldBlock, ConnectionReset, BrokenPipe}
 use Rattle.live_net.specs.declared.live.PeerTaken.TheVariants as taken
 use Rattle.live_net.specs.declared.live.PeerPut.TheVariants as put
-use Rattle.live_sockets.specs.Answers.{read_gives, read_fails, write_gives, write_fails}
-use Rattle.live_sockets.specs.OpenPeers.{OpenLive, HasConnection, Leaves}
+use Rattle.live_sockets.specs.layers.Answers.{read_gives, read_fails, write_gives, write_fails}
+use Rattle.live_sockets.specs.layers.OpenPeers.{OpenLive, HasConnection, Leaves}
 
 -- a read
 no_byte_is_the_end : read_gives 0 ≡ Some taken.Ended

@@ -1,3 +1,1 @@
-pub mod Answers
-pub mod OpenPeers
-pub mod Seconds
+pub mod layers

@@ -3,7 +3,8 @@
 ghost use Rattle.std.specs.Prelude.{◌≡◌, ◌<◌, length, IfOk, IfErr};
 ghost use Rattle.std.specs.IoError.{error_kind};
 ghost use Rattle.live_net.specs.LiveCalls.{PeerPutWithin, PeerTakenWithin};
-ghost use Rattle.live_sockets.specs.Answers.{read_gives, read_fails, write_gives, write_fails};
+ghost use Rattle.live_sockets.specs.layers.Answers.{read_gives, read_fails, write_gives};
+ghost use Rattle.live_sockets.specs.layers.Answers.{write_fails};
 
 use line_sockets::{MOST_TRIES, take_low};
 use live_net::{PeerPut, PeerTaken};

@@ -3,8 +3,8 @@
 ghost use Rattle.std.specs.Prelude.{◌≡◌, ◌≢◌, ◌<◌, length, set, map, true, false, IfOk};
 ghost use Rattle.std.specs.Prelude.{replicate};
 ghost use Rattle.live_net.specs.LiveCalls.{PeerPutWithin, PeerTakenWithin};
-ghost use Rattle.live_sockets.specs.OpenPeers.{HasConnection, is_connected, is_begun};
-ghost use Rattle.live_sockets.specs.OpenPeers.{stands_after_put, stands_after_take};
+ghost use Rattle.live_sockets.specs.layers.OpenPeers.{HasConnection, is_connected, is_begun};
+ghost use Rattle.live_sockets.specs.layers.OpenPeers.{stands_after_put, stands_after_take};
 
 use crate::connection::Connection;
 use live_net::{PeerOpened, PeerPut, PeerTaken};
@@ -88,7 +88,7 @@ pub struct Peers {
 
 impl Model for Peers {
     ghost use Rattle.std.specs.Prelude.{Bool, List, map};
-    ghost use Rattle.live_sockets.specs.OpenPeers.{is_connected};
+    ghost use Rattle.live_sockets.specs.layers.OpenPeers.{is_connected};
 
     ghost Value = { List Bool };
 

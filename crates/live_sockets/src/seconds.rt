@@ -2,7 +2,7 @@
 
 ghost use Rattle.std.specs.Prelude.{◌≡◌, ◌↔◌, ◌≤◌, true};
 ghost use Rattle.std.specs.Duration.{as_nanos};
-ghost use Rattle.live_sockets.specs.Seconds.{second};
+ghost use Rattle.live_sockets.specs.layers.Seconds.{second};
 
 use std::io;
 use std::time::{Clock, Duration, Instant};

@@ -4,8 +4,8 @@ ghost use Rattle.std.specs.Prelude.{◌≡◌, ◌≢◌, ◌<◌, None, length,
 ghost use Rattle.pitch_io.specs.Causes.{HasCause};
 ghost use Rattle.live_net.specs.LineCalls.{ReceiveFailed, ReceivedWithin};
 ghost use Rattle.live_net.specs.LiveCalls.{PeerPutWithin, PeerTakenWithin, WaitEndFailed};
-ghost use Rattle.live_sockets.specs.OpenPeers.{HasConnection, Leaves, is_begun};
-ghost use Rattle.live_sockets.specs.OpenPeers.{stands_after_put, stands_after_take};
+ghost use Rattle.live_sockets.specs.layers.OpenPeers.{HasConnection, Leaves, is_begun};
+ghost use Rattle.live_sockets.specs.layers.OpenPeers.{stands_after_put, stands_after_take};
 
 use crate::peers::Peers;
 use crate::seconds::Seconds;
@@ -36,7 +36,7 @@ pub struct LiveSockets<R, I> {
 }
 
 impl<R, I> Model for LiveSockets<R, I> {
-    ghost use Rattle.live_sockets.specs.OpenPeers.{OpenLive};
+    ghost use Rattle.live_sockets.specs.layers.OpenPeers.{OpenLive};
 
     ghost Value = { OpenLive };
 

@@ -18,14 +18,14 @@ use Rattle.session_ends.specs.Events as event
 use Rattle.client_links.specs.Linking.{Lookups, link_tells}
 use Rattle.spin_path.specs.Paths.{heard_all}
 use Rattle.client_end.specs.Came.{Came, EndSetup, EndState, Heard, GrpMade, GrpTook, GrpCut, GrpLost, SpinMade, SpinTook, SpinCut, SpinLost, Second, ask_sent, both_links_tick, end_after, end_history, grp_link_ticks}
-use Rattle.client_end.specs.Hearing.{IsTold}
+use Rattle.client_end.specs.layers.Hearing.{IsTold}
 use Rattle.client_end.specs.Links.{gap_link, spin_link}
 use Rattle.client_end.specs.Sessions.{SessionState, fed_at, happened, heard_cut, heard_in_part, link_took, link_lost, settled_at}
 use Rattle.client_end.proofs.HeardItems.{AreTold}
 use Rattle.client_end.proofs.LinkItems.{link_told}
 use Rattle.live_units.specs.Coming.{has_unit, history_at}
 use Rattle.live_units.specs.Ended.{ends_of, is_end, is_ended}
-use Rattle.live_units.specs.Laws.{EndsAreVenues, HasEndWithin}
+use Rattle.live_units.specs.layers.Laws.{EndsAreVenues, HasEndWithin}
 use Rattle.live_units.specs.LiveText.{is_block}
 use Rattle.live_units.specs.Standing.{lower_of, lowest}
 

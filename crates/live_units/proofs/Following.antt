@@ -19,7 +19,8 @@ use Rattle.unit_clients.specs.Clients.{is_named}
 use Rattle.stream_print.specs.Rising.{named_below}
 use Rattle.stream_print.proofs.Naming.{units_below}
 use Rattle.live_units.specs.Coming.{LiveSetup, UnitCame, block_count, book_at, came_to, end_setup, has_book, has_unit, live_books, live_lines, to_unit, with_blocks}
-use Rattle.live_units.specs.Laws.{BooksAreFollows, LinesAreFollows, TextIsFollows, listened_of, only_blocks}
+use Rattle.live_units.specs.layers.Laws.{BooksAreFollows, LinesAreFollows, TextIsFollows}
+use Rattle.live_units.specs.layers.Laws.{listened_of, only_blocks}
 use Rattle.live_units.specs.LiveText.{came_text, end_book, is_block, is_told_of}
 
 -- ---- One unit

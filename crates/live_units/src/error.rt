@@ -36,7 +36,7 @@ impl From<OutOfMemory> for LiveError {
 
 impl From<PrintError> for LiveError {
     ghost use Rattle.std.specs.Prelude.{◌≡◌};
-    ghost use Rattle.live_units.specs.Failures.{unprintable};
+    ghost use Rattle.live_units.specs.layers.Failures.{unprintable};
 
     ghost from_gives = { λ printing error. error ≡ unprintable printing };
 

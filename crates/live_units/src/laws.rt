@@ -1,8 +1,8 @@
 //! What is printed where only blocks came, and what a unit has heard that has ended. These
 //! functions do nothing: what they ensure is proved of the definitions alone.
 
-ghost use Rattle.live_units.specs.Laws.{LinesAreFollows, BooksAreFollows, TextIsFollows};
-ghost use Rattle.live_units.specs.Laws.{EndsAreVenues};
+ghost use Rattle.live_units.specs.layers.Laws.{LinesAreFollows, BooksAreFollows, TextIsFollows};
+ghost use Rattle.live_units.specs.layers.Laws.{EndsAreVenues};
 
 /// Of a unit to which blocks alone came, each line is that of `follow`, and so is the book; and of
 /// the units of a client, the whole text.

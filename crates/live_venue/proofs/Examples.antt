@@ -23,7 +23,7 @@ use Rattle.venue_end.specs.Came.{Commanded}
 use Rattle.venue_net.specs.VenueCalls.{Put, Take}
 use Rattle.venue_end.specs.declared.setup.VenueSetup.{VenueSetup}
 use Rattle.venue_units.specs.Coming.{UnitCame, state_at, to_unit}
-use Rattle.live_venue.specs.Faults.{fault_text}
+use Rattle.live_venue.specs.layers.Faults.{fault_text}
 use Rattle.live_venue.specs.Input.{Heard, faulty, piece_heard, rest_heard, said_heard, told_line, unless_refused}
 use Rattle.live_venue.specs.Running.{Fits, at_first, beaten}
 use Rattle.live_venue.specs.Sending.{gap_line, line_a, line_b, on_both, on_gap, to_line}

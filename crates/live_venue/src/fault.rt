@@ -28,7 +28,7 @@ pub enum InputFault {
 /// The fault in words, as `refused at line 2: known-id`.
 impl fmt::Display for InputFault {
     ghost use Rattle.std.specs.Prelude.{Some};
-    ghost use Rattle.live_venue.specs.Faults.{fault_text};
+    ghost use Rattle.live_venue.specs.layers.Faults.{fault_text};
 
     ghost output = { λ fault. Some (fault_text fault) };
 

@@ -13,7 +13,7 @@ use Rattle.clap.proofs.WalkLemmas.{both}
 use Rattle.long_options.specs.Words.{AreListed, Given, Listed, Text, has_name, listed, value_of}
 use Rattle.long_options.specs.Plain.{are_distinct}
 use Rattle.long_options.specs.Found.{given_options}
-use Rattle.long_options.specs.Finding.{found_options, is_set}
+use Rattle.long_options.specs.layers.Finding.{found_options, is_set}
 use Rattle.long_options.proofs.Rows.{given_row}
 use Rattle.long_options.proofs.Level.{all_rows, default_row, has_text, rows_left, unused_after, unused_of}
 

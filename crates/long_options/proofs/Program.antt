@@ -23,7 +23,7 @@ use Rattle.long_options.proofs.Turns.{both_none, built_shape, flag_turn, left_no
 use Rattle.long_options.proofs.Sound.{all_rest}
 use Rattle.long_options.proofs.LongWords.{not_dashes}
 use Rattle.long_options.proofs.Apart.{no_option}
-use Rattle.long_options.specs.Finding.{CallsTaken, Finds, TakesCalls}
+use Rattle.long_options.specs.layers.Finding.{CallsTaken, Finds, TakesCalls}
 use Rattle.long_options.proofs.Found.{distinct_found, found_is}
 use Rattle.long_options.proofs.Complete.{listed_plain, name_attached, name_flag, plain_names}
 use Rattle.long_options.proofs.Level.{rows_left, level_complete, level_sound}

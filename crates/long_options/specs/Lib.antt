@@ -2,4 +2,4 @@ pub mod Words
 pub mod Plain
 pub mod Apps
 pub mod Found
-pub mod Finding
+pub mod layers

@@ -12,7 +12,7 @@
 //! give. Words with `--` among them, which to `clap` ends the options, are left out.
 #![tactic(auto)]
 
-ghost use Rattle.long_options.specs.Finding.{CallsTaken, TakesCalls};
+ghost use Rattle.long_options.specs.layers.Finding.{CallsTaken, TakesCalls};
 
 /// Words that `clap` takes are a command with its options, which `clap` finds; and words that are a
 /// command with its options are taken.

@@ -1,7 +1,7 @@
 //! The two streams of a connection.
 
 ghost use Rattle.std.specs.Prelude.{◌<◌, length};
-ghost use Rattle.pitch_io.specs.Coming.{CameWithin};
+ghost use Rattle.pitch_io.specs.layers.Coming.{CameWithin};
 ghost use Rattle.pitch_io.specs.Putting.{PutsWithin};
 
 use patient_io::comes_within;

@@ -1,7 +1,7 @@
 //! The two sockets of a line.
 
 ghost use Rattle.std.specs.Prelude.{◌<◌, length};
-ghost use Rattle.pitch_io.specs.Coming.{CameWithin};
+ghost use Rattle.pitch_io.specs.layers.Coming.{CameWithin};
 
 use crate::connection::MOST_TRIES;
 use pitch_io::{NetDone, NetTaken};

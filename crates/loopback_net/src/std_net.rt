@@ -1,10 +1,10 @@
 //! The net over these sockets.
 
 ghost use Rattle.std.specs.Prelude.{◌≡◌, ◌<◌, [], None, false, true, length};
-ghost use Rattle.loopback_net.specs.Opening.{UsesOpen};
+ghost use Rattle.loopback_net.specs.layers.Opening.{UsesOpen};
 ghost use Rattle.pitch_io.specs.Causes.{HasCause};
 ghost use Rattle.pitch_io.specs.Nets.{NetDoneFailed, NetTakeFailed};
-ghost use Rattle.pitch_io.specs.Coming.{CameWithin};
+ghost use Rattle.pitch_io.specs.layers.Coming.{CameWithin};
 ghost use Rattle.pitch_io.specs.Putting.{PutFailed, PutsWithin};
 
 use crate::connection;
@@ -102,7 +102,7 @@ pub struct StdNet<R: net::Net> {
 
 impl<R: net::Net> Model for StdNet<R> {
     ghost use Rattle.std.specs.Prelude.{is_some};
-    ghost use Rattle.loopback_net.specs.Opening.{Opened};
+    ghost use Rattle.loopback_net.specs.layers.Opening.{Opened};
 
     ghost Value = { Opened };
 

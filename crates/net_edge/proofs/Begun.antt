@@ -6,8 +6,8 @@ use Rattle.pitch_model.specs.declared.status.Status.{Status}
 use Rattle.pitch_model.specs.declared.status.Status.TheVariants.{Current}
 use Rattle.net_edge.specs.Breaking.{Breaks}
 use Rattle.net_edge.specs.Due.{Setting}
-use Rattle.net_edge.specs.Markets.{SideAt}
-use Rattle.net_edge.specs.Playing.{EndsHave, DemoAt, IsSentTo, IsUncalled}
+use Rattle.net_edge.specs.layers.Markets.{SideAt}
+use Rattle.net_edge.specs.layers.Playing.{EndsHave, DemoAt, IsSentTo, IsUncalled}
 use Rattle.net_edge.specs.Scene.{Scene}
 use Rattle.net_edge.specs.Turns.{IsOver, client_status}
 use Rattle.net_edge.specs.declared.ends.Ends.{Ends}

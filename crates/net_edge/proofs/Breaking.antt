@@ -1,10 +1,10 @@
 -- Where a run breaks off.
 use Rattle.std.proofs.Common.{List, [], ◌∷◌, Option, None, Some, sym, ap, ◌∙◌, subst}
 use Rattle.pitch_io.specs.Nets.{Call}
-use Rattle.pitch_io.specs.Coming.{ListsCall}
+use Rattle.pitch_io.specs.layers.Coming.{ListsCall}
 use Rattle.net_edge.specs.Breaking.{HasFailed, ListsAdded, Breaks}
 use Rattle.net_edge.specs.Due.{Setting}
-use Rattle.net_edge.specs.Playing.{ListsCalls, Plays, Runs}
+use Rattle.net_edge.specs.layers.Playing.{ListsCalls, Plays, Runs}
 use Rattle.net_edge.specs.Scene.{Scene}
 use Rattle.net_edge.specs.Steps.{Step, calls_of}
 use Rattle.net_edge.specs.Turns.{MayCall}

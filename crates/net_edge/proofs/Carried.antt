@@ -40,7 +40,7 @@ use Rattle.world_model.proofs.Witness as witness
 use Rattle.net_edge.specs.Acting.{scene_after, scene_of, is_group_open, sent_on, spin_server_fed, spin_answered, where_stands, servers_tick, links_tick, client_tick}
 use Rattle.net_edge.specs.Demo.{IsCarried, AreTotalsOf, all_messages, reached_book}
 use Rattle.net_edge.specs.Due.{Setting, demo_unit, hold_limit}
-use Rattle.net_edge.specs.Playing.{ClientHas, closes, told_down}
+use Rattle.net_edge.specs.layers.Playing.{ClientHas, closes, told_down}
 use Rattle.net_edge.specs.Scene.{Scene, line_in, at_end, said_at}
 use Rattle.net_edge.specs.Steps.{Step, Did, Beat, Turn}
 use Rattle.net_edge.specs.Turns.{AreSteps, MayCome}

@@ -20,9 +20,9 @@ use Rattle.feed_lines.specs.UnitLine.{unit_line}
 use Rattle.net_edge.specs.Acting.{scene_of}
 use Rattle.net_edge.specs.Demo.{IsDemo, EndsDemo, IsLast, AddsCalls, all_messages, AreShort}
 use Rattle.net_edge.specs.Due.{Setting, demo_unit, hold_limit, accepted}
-use Rattle.net_edge.specs.Markets.{SideAt}
-use Rattle.net_edge.specs.Playing.{DemoAt, EndsHave, ListsCalls, calls_before}
-use Rattle.net_edge.specs.Sending.{DoesDemo}
+use Rattle.net_edge.specs.layers.Markets.{SideAt}
+use Rattle.net_edge.specs.layers.Playing.{DemoAt, EndsHave, ListsCalls, calls_before}
+use Rattle.net_edge.specs.layers.Sending.{DoesDemo}
 use Rattle.net_edge.specs.Scene.{Scene, line_in}
 use Rattle.net_edge.specs.Steps.{Step}
 use Rattle.net_edge.specs.Turns.{AreSteps, IsOver, client_status}

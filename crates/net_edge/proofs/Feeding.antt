@@ -22,7 +22,7 @@ use Rattle.grp_session.proofs.Replies.{proxy_pieces, views_same}
 use Rattle.net_edge.specs.Acting.{scene_after, scene_of, source_at}
 use Rattle.net_edge.specs.Demo.{all_messages}
 use Rattle.net_edge.specs.Due.{Setting, IsDuePiece, AreDuePieces, demo_unit, accepted, messages, gap_view}
-use Rattle.net_edge.specs.Playing.{proxy_said}
+use Rattle.net_edge.specs.layers.Playing.{proxy_said}
 use Rattle.net_edge.specs.Scene.{Scene, line_in}
 use Rattle.net_edge.specs.Steps.{Step, Did, Beat, Turn}
 use Rattle.net_edge.specs.Turns.{AreSteps, MayCome}

@@ -7,7 +7,7 @@ use Rattle.std.proofs.Math.Bool.{and-false}
 use Rattle.pitch_io.specs.declared.net.NetTaken.{NetTaken}
 use Rattle.pitch_io.specs.declared.net.NetTaken.TheVariants as taken
 use Rattle.net_edge.specs.Acting.{is_group_open}
-use Rattle.net_edge.specs.Playing.{IsGroupOver, AreTaken}
+use Rattle.net_edge.specs.layers.Playing.{IsGroupOver, AreTaken}
 use Rattle.net_edge.specs.Scene.{is_got}
 
 -- so many calls, each of which got something

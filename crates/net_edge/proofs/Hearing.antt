@@ -5,7 +5,7 @@ use Rattle.pitch_io.specs.declared.line.Line.TheVariants.{A, B, Gap}
 use Rattle.pitch_io.specs.declared.net.NetTaken.{NetTaken}
 use Rattle.pitch_io.specs.declared.net.NetTaken.TheVariants as taken
 use Rattle.pitch_io.specs.Nets.{Call, Next, NetTakeFailed}
-use Rattle.pitch_io.specs.Coming.{ListsCall}
+use Rattle.pitch_io.specs.layers.Coming.{ListsCall}
 use Rattle.unit_packets.specs.Blocks.{Block}
 use Rattle.pitch_model.specs.History.{Entry, Raw}
 use Rattle.pitch_model.specs.Honest.{Honest}
@@ -14,12 +14,12 @@ use Rattle.heard_items.specs.Datagrams.{heard_blocks}
 use Rattle.heard_items.specs.Heard.{heard_block}
 use Rattle.heard_items.proofs.Datagrams.{heard_both}
 use Rattle.heard_items.proofs.Units.{honest_block}
-use Rattle.client_core.specs.Blocks.{Carries}
+use Rattle.client_core.specs.layers.Blocks.{Carries}
 use Rattle.client_core.specs.Tracks.{Tracks, Keeps}
 use Rattle.client_core.specs.declared.client.UnitClient.{UnitClient}
 use Rattle.net_edge.specs.Acting.{called, ours, is_group_open, came_by, blocks_heard}
 use Rattle.net_edge.specs.Due.{Setting, demo_unit, call_room}
-use Rattle.net_edge.specs.Playing.{ClientHas, HearsOn, Plays}
+use Rattle.net_edge.specs.layers.Playing.{ClientHas, HearsOn, Plays}
 use Rattle.net_edge.specs.Scene.{Scene, OnLine, line_in, with_line}
 use Rattle.net_edge.specs.Turns.{MayCall}
 use Rattle.net_edge.specs.Breaking.{Breaks}

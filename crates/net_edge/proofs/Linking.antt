@@ -11,7 +11,7 @@ use Rattle.pitch_io.specs.declared.net.LinkEnd.{LinkEnd}
 use Rattle.pitch_io.specs.declared.net.NetTaken.{NetTaken}
 use Rattle.pitch_io.specs.declared.net.NetTaken.TheVariants as taken
 use Rattle.pitch_io.specs.Nets.{Call, Take, NetTakeFailed}
-use Rattle.pitch_io.specs.Coming.{ListsCall}
+use Rattle.pitch_io.specs.layers.Coming.{ListsCall}
 use Rattle.pitch_model.specs.History.{Entry, Raw}
 use Rattle.pitch_model.specs.Honest.{Honest}
 use Rattle.pitch_model.specs.Image.{image}
@@ -26,13 +26,14 @@ use Rattle.client_links.specs.Telling.{without_spare}
 use Rattle.spin_path.specs.Paths.{heard_all}
 use Rattle.spin_path.proofs.Moves.{spare_is_unheard}
 use Rattle.world_model.specs.State.{Connection, Pipe}
-use Rattle.client_end.specs.Hearing.{HearsItems}
+use Rattle.client_end.specs.layers.Hearing.{HearsItems}
 use Rattle.client_end.proofs.Told as of_link
 use Rattle.net_edge.specs.Acting.{is_group_open, end_puts, end_took, taken_at}
 use Rattle.net_edge.specs.Due.{Setting, call_room, hold_limit}
-use Rattle.net_edge.specs.Playing.{Plays, ClientHas, LinkHas, LinkSays, LinkTells, HearsLink, closes, told_down}
+use Rattle.net_edge.specs.layers.Playing.{Plays, ClientHas, LinkHas, LinkSays, LinkTells, HearsLink}
+use Rattle.net_edge.specs.layers.Playing.{closes, told_down}
 use Rattle.net_edge.specs.Scene.{Scene, AtEnd}
-use Rattle.net_edge.specs.Sessions.{end_of, session_setup, with_client_end}
+use Rattle.net_edge.specs.layers.Sessions.{end_of, session_setup, with_client_end}
 use Rattle.net_edge.specs.Turns.{MayCall}
 use Rattle.net_edge.specs.Breaking.{Breaks}
 use Rattle.net_edge.specs.declared.error.DemoError.TheVariants as errors

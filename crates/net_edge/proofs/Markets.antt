@@ -18,18 +18,19 @@ use Rattle.session_ends.specs.Events.{Event, Fed}
 use Rattle.session_ends.specs.Sending.{new_items}
 use Rattle.grp_session.specs.Budget.{Limits, Spent}
 use Rattle.grp_session.specs.Serving.{Source}
-use Rattle.grp_session.specs.Feeding.{Answered, ProxyFeeds, StoreHasOneView}
+use Rattle.grp_session.specs.layers.Feeding.{Answered, ProxyFeeds, StoreHasOneView}
 use Rattle.session_ends.specs.Ending.{Ending}
 use Rattle.spin_server.specs.Served.{Served}
 use Rattle.spin_server.specs.Serving.{Serving, SpinStands, spin_sends}
-use Rattle.spin_server.specs.Feeding.{SpinFeeds}
+use Rattle.spin_server.specs.layers.Feeding.{SpinFeeds}
 use Rattle.spin_server.specs.Shelves.{Shelf}
 use Rattle.spin_server.specs.ShelfViews.{ShelfShows, ShelfHasOneView}
 use Rattle.unit_market.specs.Markets.{KeepsShelf}
 use Rattle.unit_market.specs.Views.{image_view}
 use Rattle.unit_market.proofs.Showing.{shows_view}
 use Rattle.net_edge.specs.Due.{Setting, AreDuePieces, demo_unit, kept_messages, accepted, messages, new_datagrams, advertised_until}
-use Rattle.net_edge.specs.Markets.{StillHas, SideHas, SideAt, HasAccepted, SpinFed, gap_source}
+use Rattle.net_edge.specs.layers.Markets.{StillHas, SideHas, SideAt, HasAccepted, SpinFed}
+use Rattle.net_edge.specs.layers.Markets.{gap_source}
 use Rattle.net_edge.specs.Scene.{Scene}
 use Rattle.net_edge.proofs.Feeding.{messages_many}
 

@@ -16,9 +16,12 @@ use Rattle.world_model.specs.State.{Pipe}
 use Rattle.net_edge.specs.Acting.{is_group_open}
 use Rattle.net_edge.specs.Due.{Setting}
 use Rattle.pitch_model.specs.History.{Entry}
-use Rattle.net_edge.specs.Playing.{ClientHas, EndsHave, DemoAt, Plays, ProxyServes, SpinServes, HearsOn, HearsLink, LinkAt, IsSentTo, IsUncalled, IsGroupOver, AreTaken, ServersDone, LinesDone, with_proxy}
+use Rattle.net_edge.specs.layers.Playing.{ClientHas, EndsHave, DemoAt, Plays, ProxyServes}
+use Rattle.net_edge.specs.layers.Playing.{SpinServes, HearsOn, HearsLink, LinkAt, IsSentTo}
+use Rattle.net_edge.specs.layers.Playing.{IsUncalled, IsGroupOver, AreTaken, ServersDone, LinesDone}
+use Rattle.net_edge.specs.layers.Playing.{with_proxy}
 use Rattle.net_edge.specs.Scene.{Scene, OnLine, AtEnd, line_in, with_line, at_end, said_at}
-use Rattle.net_edge.specs.Sessions.{end_of, session_setup, with_client_end}
+use Rattle.net_edge.specs.layers.Sessions.{end_of, session_setup, with_client_end}
 use Rattle.net_edge.specs.Turns.{IsOver}
 use Rattle.net_edge.specs.declared.ends.Ends.{Ends}
 use Rattle.net_edge.specs.declared.proxy.Proxy.{Proxy}

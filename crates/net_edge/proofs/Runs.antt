@@ -8,10 +8,10 @@ use Rattle.pitch_io.specs.declared.net.LinkEnd.{LinkEnd}
 use Rattle.pitch_io.specs.declared.net.LinkEnd.TheVariants.{GrpClient, GrpServer, SpinClient, SpinServer}
 use Rattle.pitch_io.specs.declared.net.NetDone.{NetDone}
 use Rattle.pitch_io.specs.Nets.{Call, NetDoneFailed, Send}
-use Rattle.pitch_io.specs.Coming.{ListsCall}
+use Rattle.pitch_io.specs.layers.Coming.{ListsCall}
 use Rattle.net_edge.specs.Acting.{called, scene_after, sent_on, end_puts, all_tick, next_turn}
 use Rattle.net_edge.specs.Due.{Setting, IsDuePiece, beat, is_tenth}
-use Rattle.net_edge.specs.Playing.{ListsCalls, Plays}
+use Rattle.net_edge.specs.layers.Playing.{ListsCalls, Plays}
 use Rattle.net_edge.specs.Scene.{Scene}
 use Rattle.net_edge.specs.Steps.{Step, Did, Beat, Turn, call_at, calls_of}
 use Rattle.net_edge.specs.Turns.{GoesWell, MayCall, MayCome, IsOver, MayGoOn}

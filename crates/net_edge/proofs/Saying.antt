@@ -18,7 +18,7 @@ use Rattle.pitch_text.specs.declared.verb.Session.TheVariants.{Grp, Spin}
 use Rattle.world_model.specs.Verbs.{at_server_of, at_link}
 use Rattle.net_edge.specs.Acting.{where_stands}
 use Rattle.net_edge.specs.Due.{demo_unit}
-use Rattle.net_edge.specs.Playing.{ProxyHas, ProxySays, SpinHas, SpinSays, LinkHas, LinkSays}
+use Rattle.net_edge.specs.layers.Playing.{ProxyHas, ProxySays, SpinHas, SpinSays, LinkHas, LinkSays}
 use Rattle.net_edge.specs.declared.proxy.Proxy.{Proxy}
 
 -- behind what was said before nothing comes

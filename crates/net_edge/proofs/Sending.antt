@@ -5,13 +5,13 @@ use Rattle.std.specs.Result.{IfErr}
 use Rattle.pitch_fields.proofs.Lists.{all_append}
 use Rattle.pitch_io.specs.declared.net.NetDone.TheVariants.{Done, Failed}
 use Rattle.pitch_io.specs.Nets.{Call, Begin, Send, Next, Put, Take}
-use Rattle.pitch_io.specs.Coming.{ListsCall}
+use Rattle.pitch_io.specs.layers.Coming.{ListsCall}
 use Rattle.net_edge.specs.Acting.{scene_of}
 use Rattle.net_edge.specs.Breaking.{Breaks, BreaksOff}
 use Rattle.net_edge.specs.Demo.{IsDemo, BreaksDemo, AddsCalls}
-use Rattle.net_edge.specs.Sending.{SendsPiece, SendsPieces}
+use Rattle.net_edge.specs.layers.Sending.{SendsPiece, SendsPieces}
 use Rattle.net_edge.specs.Due.{Setting}
-use Rattle.net_edge.specs.Playing.{calls_before}
+use Rattle.net_edge.specs.layers.Playing.{calls_before}
 use Rattle.net_edge.specs.Scene.{Scene}
 use Rattle.net_edge.specs.Steps.{Step, Did, Beat, Turn, calls_of}
 use Rattle.net_edge.specs.Turns.{AreSteps, MayCall}

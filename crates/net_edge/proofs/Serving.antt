@@ -5,17 +5,18 @@ use Rattle.pitch_io.specs.declared.net.LinkEnd.TheVariants.{GrpServer}
 use Rattle.pitch_io.specs.declared.net.NetTaken.{NetTaken}
 use Rattle.pitch_io.specs.declared.net.NetTaken.TheVariants as taken
 use Rattle.pitch_io.specs.Nets.{Call, Take}
-use Rattle.pitch_io.specs.Coming.{ListsCall, came}
+use Rattle.pitch_io.specs.layers.Coming.{ListsCall, came}
 use Rattle.session_ends.specs.Answering.{Answer}
 use Rattle.session_ends.specs.Closing.{Setup}
 use Rattle.session_ends.specs.Events.{Event, Fed}
 use Rattle.grp_session.specs.Budget.{Counted, Limits, Spent}
 use Rattle.grp_session.specs.Serving.{Source, proxy_answer}
-use Rattle.grp_session.specs.Feeding.{Answered}
+use Rattle.grp_session.specs.layers.Feeding.{Answered}
 use Rattle.net_edge.specs.Acting.{source_at, proxy_took, end_took, taken_at, is_group_open}
 use Rattle.net_edge.specs.Due.{Setting, call_room, messages}
-use Rattle.net_edge.specs.Markets.{gap_source}
-use Rattle.net_edge.specs.Playing.{ProxyHas, ProxyFed, ProxyAnswers, ProxyServes, Plays, with_proxy, proxy_said}
+use Rattle.net_edge.specs.layers.Markets.{gap_source}
+use Rattle.net_edge.specs.layers.Playing.{ProxyHas, ProxyFed, ProxyAnswers, ProxyServes, Plays}
+use Rattle.net_edge.specs.layers.Playing.{with_proxy, proxy_said}
 use Rattle.net_edge.specs.Scene.{Scene, AtEnd, got_end}
 use Rattle.net_edge.specs.Turns.{MayCall}
 use Rattle.net_edge.specs.declared.proxy.Proxy.{Proxy}

@@ -10,7 +10,7 @@ use Rattle.pitch_model.specs.Advertising.{Operation, Accept, Advertise, accepted
 use Rattle.pitch_model.specs.History.{Raw}
 use Rattle.pitch_model.proofs.Advertising.{accepted_more, advertised_accept, advertised_advertise}
 use Rattle.gap_store.specs.Look.{View}
-use Rattle.gap_store.specs.Looking.{IsLater}
+use Rattle.gap_store.specs.layers.Looking.{IsLater}
 use Rattle.gap_store.proofs.OneView.{later_both as same_views}
 use Rattle.session_ends.specs.Answering.{Answer, Answerer, no_answer, followed, answers}
 use Rattle.session_ends.specs.Hearings.{Rises}
@@ -25,19 +25,19 @@ use Rattle.session_ends.specs.declared.role.Said.TheVariants.{Skipped, TooShort,
 use Rattle.session_ends.proofs.Runs.{IsOrder, rises_nowhere, rises_to}
 use Rattle.grp_session.specs.Budget.{Limits, Spent}
 use Rattle.grp_session.specs.Serving.{Source}
-use Rattle.grp_session.specs.Feeding.{Answered, ProxyFeeds}
+use Rattle.grp_session.specs.layers.Feeding.{Answered, ProxyFeeds}
 use Rattle.grp_session.proofs.Asked as asked
 use Rattle.spin_server.specs.Served.{Served, is_served}
 use Rattle.spin_server.specs.Looking.{ServedLater}
 use Rattle.spin_server.specs.Serving.{Serving, Spin, SpinStands, after_login, refusal_answer}
 use Rattle.spin_server.specs.Serving.{running_spin, served_answer, spin_answer, spin_fed_answer}
 use Rattle.spin_server.specs.Serving.{spin_message_answer, spin_said_answer, spin_sends}
-use Rattle.spin_server.specs.Feeding.{SpinFeeds}
+use Rattle.spin_server.specs.layers.Feeding.{SpinFeeds}
 use Rattle.spin_server.specs.ShelfViews.{seen_of}
 use Rattle.spin_server.proofs.Serves as serves
 use Rattle.spin_server.proofs.Shelving.{later_both, seen_newest, seen_served}
-use Rattle.shared_unit.specs.Histories.{kept_at, served_at, then_done}
-use Rattle.shared_unit.specs.Moments.{Writing}
+use Rattle.shared_unit.specs.layers.Histories.{kept_at, served_at, then_done}
+use Rattle.shared_unit.specs.layers.Moments.{Writing}
 use Rattle.shared_unit.proofs.Looking.{messages_later, images_later}
 use Rattle.venue_core.specs.Commands.{raw_of}
 use Rattle.venue_core.specs.Plan.{plan, plan_command}
@@ -45,7 +45,7 @@ use Rattle.venue_core.specs.Stands.{last_of}
 use Rattle.venue_core.proofs.PlanBooks.{plan_next}
 use Rattle.net_edge.specs.Due.{demo_unit, kept_messages}
 use Rattle.unit_market.specs.Views.{image_view}
-use Rattle.net_edge.specs.Markets.{SharedHas, SpinFed, gap_source}
+use Rattle.net_edge.specs.layers.Markets.{SharedHas, SpinFed, gap_source}
 
 -- ---- The writer
 last_accepted : (history : List Operation) (raw : Raw) → last_of (accepted_by (then_done history (Accept raw))) ≡ Some raw

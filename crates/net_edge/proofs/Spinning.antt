@@ -6,21 +6,21 @@ use Rattle.pitch_io.specs.declared.net.LinkEnd.TheVariants.{SpinServer}
 use Rattle.pitch_io.specs.declared.net.NetTaken.{NetTaken}
 use Rattle.pitch_io.specs.declared.net.NetTaken.TheVariants as taken
 use Rattle.pitch_io.specs.Nets.{Call, Take, NetTakeFailed}
-use Rattle.pitch_io.specs.Coming.{ListsCall, came}
+use Rattle.pitch_io.specs.layers.Coming.{ListsCall, came}
 use Rattle.session_ends.specs.Closing.{Setup}
 use Rattle.session_ends.specs.Events.{Event, Fed, Pumped}
 use Rattle.session_ends.specs.Sending.{new_items}
 use Rattle.spin_server.specs.Served.{Served}
 use Rattle.spin_server.specs.Serving.{Serving, SpinStands, spin_sends}
-use Rattle.world_model.specs.Carried.{IsServed}
+use Rattle.world_model.specs.layers.Carried.{IsServed}
 use Rattle.world_model.specs.Ends.{spin_server, spin_says}
 use Rattle.world_model.specs.State.{Connection}
 use Rattle.world_model.specs.Verbs.{pumped_times, pumps, sent_whole}
 use Rattle.world_model.proofs.Pumping.{Pumping, pumping_begins, pumping_ends}
 use Rattle.net_edge.specs.Acting.{is_group_open, bytes_by, spin_server_fed, spin_answered, end_puts}
 use Rattle.net_edge.specs.Due.{Setting, demo_unit, call_room, spin_view}
-use Rattle.net_edge.specs.Markets.{SpinFed}
-use Rattle.net_edge.specs.Playing.{SpinHas, SpinSays, SpinServes, Plays}
+use Rattle.net_edge.specs.layers.Markets.{SpinFed}
+use Rattle.net_edge.specs.layers.Playing.{SpinHas, SpinSays, SpinServes, Plays}
 use Rattle.net_edge.specs.Scene.{Scene, AtEnd, is_got, got_end}
 use Rattle.net_edge.specs.Turns.{MayCall}
 use Rattle.net_edge.proofs.Runs.{play_call}

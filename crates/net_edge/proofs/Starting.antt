@@ -4,7 +4,7 @@ use Rattle.venue_core.proofs.PlanBooks.{plan_begins}
 use Rattle.pitch_io.specs.declared.net.LinkEnd.TheVariants.{GrpClient, SpinClient}
 use Rattle.pitch_io.specs.declared.net.NetDone.TheVariants.{Done}
 use Rattle.pitch_io.specs.Nets.{Call, Begin, NetDoneFailed}
-use Rattle.pitch_io.specs.Coming.{ListsCall}
+use Rattle.pitch_io.specs.layers.Coming.{ListsCall}
 use Rattle.pitch_model.specs.History.{Raw}
 use Rattle.pitch_model.specs.declared.status.Status.{Status}
 use Rattle.pitch_model.specs.declared.status.Status.TheVariants.{Current}
@@ -12,10 +12,10 @@ use Rattle.venue_core.specs.Plan.{plan}
 use Rattle.net_edge.specs.Acting.{end_puts}
 use Rattle.net_edge.specs.Demo.{IsLast}
 use Rattle.net_edge.specs.Due.{Setting, demo_unit, accepted, messages}
-use Rattle.net_edge.specs.Markets.{SideHas, SideAt}
-use Rattle.net_edge.specs.Playing.{Plays, IsSentTo, IsUncalled, calls_before}
+use Rattle.net_edge.specs.layers.Markets.{SideHas, SideAt}
+use Rattle.net_edge.specs.layers.Playing.{Plays, IsSentTo, IsUncalled, calls_before}
 use Rattle.net_edge.specs.Scene.{Scene, first_scene, said_at}
-use Rattle.net_edge.specs.Playing.{all_put}
+use Rattle.net_edge.specs.layers.Playing.{all_put}
 use Rattle.net_edge.specs.Turns.{MayGoOn, client_status}
 
 -- ---- The start

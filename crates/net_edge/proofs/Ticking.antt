@@ -18,9 +18,11 @@ use Rattle.pitch_text.specs.declared.verb.Session.TheVariants.{Grp, Spin}
 use Rattle.world_model.specs.Verbs.{at_server_of, at_link}
 use Rattle.net_edge.specs.Acting.{where_stands, end_puts, all_tick, gap_asked, image_asked}
 use Rattle.net_edge.specs.Due.{Setting, demo_unit, hold_limit, accepted}
-use Rattle.net_edge.specs.Playing.{EndsHave, DemoAt, Plays, ProxyHas, ProxySays, ProxyActs, SpinHas, SpinSays, SpinActs, LinkHas, LinkSays, LinkActs, LinkTicks, ClientHas, closes, told_down}
+use Rattle.net_edge.specs.layers.Playing.{EndsHave, DemoAt, Plays, ProxyHas, ProxySays, ProxyActs}
+use Rattle.net_edge.specs.layers.Playing.{SpinHas, SpinSays, SpinActs, LinkHas, LinkSays, LinkActs}
+use Rattle.net_edge.specs.layers.Playing.{LinkTicks, ClientHas, closes, told_down}
 use Rattle.net_edge.specs.Scene.{Scene}
-use Rattle.net_edge.specs.Playing.{all_put}
+use Rattle.net_edge.specs.layers.Playing.{all_put}
 use Rattle.net_edge.specs.declared.ends.Ends.{Ends}
 
 module _ (s : Setting) (now : Scene) where

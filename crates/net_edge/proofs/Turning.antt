@@ -8,7 +8,7 @@ use Rattle.pitch_io.specs.declared.net.LinkEnd.{LinkEnd}
 use Rattle.pitch_io.specs.declared.net.LinkEnd.TheVariants.{GrpClient, GrpServer, SpinClient, SpinServer}
 use Rattle.pitch_io.specs.declared.net.NetDone.{NetDone}
 use Rattle.pitch_io.specs.Nets.{Call, Send, NetDoneFailed}
-use Rattle.pitch_io.specs.Coming.{ListsCall}
+use Rattle.pitch_io.specs.layers.Coming.{ListsCall}
 use Rattle.pitch_messages.specs.Room.{Roomy}
 use Rattle.unit_packets.specs.Packing.{bytes_in}
 use Rattle.pitch_fields.specs.Limits.{last_sequence}
@@ -19,10 +19,11 @@ use Rattle.heard_items.specs.Datagrams.{IsPiece}
 use Rattle.venue_core.specs.Losses.{is_lost}
 use Rattle.net_edge.specs.Acting.{is_group_open, sent_on, all_tick, next_turn}
 use Rattle.net_edge.specs.Due.{Setting, IsDuePiece, AreDuePieces, demo_unit, accepted, advertised_until, beat, beats, copies, due, is_tenth, messages, new_datagrams, ticks}
-use Rattle.net_edge.specs.Markets.{SideHas, SideAt, HasAccepted}
-use Rattle.net_edge.specs.Playing.{EndsHave, DemoAt, Plays, IsSentTo, IsUncalled, after_beat, after_due_beat}
+use Rattle.net_edge.specs.layers.Markets.{SideHas, SideAt, HasAccepted}
+use Rattle.net_edge.specs.layers.Playing.{EndsHave, DemoAt, Plays, IsSentTo, IsUncalled, after_beat}
+use Rattle.net_edge.specs.layers.Playing.{after_due_beat}
 use Rattle.net_edge.specs.Scene.{Scene, OnLine, line_in, at_end, said_at}
-use Rattle.net_edge.specs.Playing.{all_put}
+use Rattle.net_edge.specs.layers.Playing.{all_put}
 use Rattle.net_edge.specs.Turns.{IsOver, MayGoOn, IsEndOver}
 use Rattle.net_edge.specs.declared.ends.Ends.{Ends}
 use Rattle.net_edge.proofs.Runs.{play_beat, play_turn}

@@ -1,11 +1,8 @@
 pub mod Steps
 pub mod Scene
 pub mod Due
-pub mod Markets
 pub mod Acting
 pub mod Turns
 pub mod Breaking
 pub mod Demo
-pub mod Sessions
-pub mod Playing
-pub mod Sending
+pub mod layers

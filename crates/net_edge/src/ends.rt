@@ -6,12 +6,12 @@ ghost use Rattle.pitch_io.specs.Nets.{Call};
 ghost use Rattle.net_edge.specs.Acting.{all_tick};
 ghost use Rattle.net_edge.specs.Breaking.{Breaks};
 ghost use Rattle.net_edge.specs.Due.{Setting, setting, call_room, accepted, is_tenth};
-ghost use Rattle.net_edge.specs.Markets.{SideAt, HasAccepted};
-ghost use Rattle.net_edge.specs.Playing.{NetCounts, Plays, BreaksRun, EndsHave};
-ghost use Rattle.net_edge.specs.Playing.{IsUncalled, IsSentTo, DemoAt, VenueDone};
-ghost use Rattle.net_edge.specs.Playing.{ServersDone, LinesDone, after_beat, after_due_beat};
+ghost use Rattle.net_edge.specs.layers.Markets.{SideAt, HasAccepted};
+ghost use Rattle.net_edge.specs.layers.Playing.{NetCounts, Plays, BreaksRun, EndsHave};
+ghost use Rattle.net_edge.specs.layers.Playing.{IsUncalled, IsSentTo, DemoAt, VenueDone};
+ghost use Rattle.net_edge.specs.layers.Playing.{ServersDone, LinesDone, after_beat, after_due_beat};
 ghost use Rattle.net_edge.specs.Scene.{Scene};
-ghost use Rattle.net_edge.specs.Playing.{all_put};
+ghost use Rattle.net_edge.specs.layers.Playing.{all_put};
 ghost use Rattle.net_edge.specs.Turns.{IsOver};
 
 use crate::error::DemoError;

@@ -10,7 +10,7 @@ ghost use Rattle.heard_items.specs.Datagrams.{heard_blocks};
 ghost use Rattle.net_edge.specs.Acting.{ours, is_group_open};
 ghost use Rattle.net_edge.specs.Breaking.{Breaks};
 ghost use Rattle.net_edge.specs.Due.{Setting, call_room};
-ghost use Rattle.net_edge.specs.Playing.{NetCounts, ClientHas, HearsOn, IsGroupOver};
+ghost use Rattle.net_edge.specs.layers.Playing.{NetCounts, ClientHas, HearsOn, IsGroupOver};
 ghost use Rattle.net_edge.specs.Scene.{Scene};
 
 use crate::error::DemoError;

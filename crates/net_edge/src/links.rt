@@ -12,11 +12,12 @@ ghost use Rattle.world_model.specs.Verbs.{at_link};
 ghost use Rattle.net_edge.specs.Acting.{is_group_open, where_stands};
 ghost use Rattle.net_edge.specs.Breaking.{Breaks};
 ghost use Rattle.net_edge.specs.Due.{Setting, call_room};
-ghost use Rattle.net_edge.specs.Playing.{NetCounts, Plays, KeepsRun, BreaksRun, ClientHas};
-ghost use Rattle.net_edge.specs.Playing.{LinkHas, LinkTells, LinkSays, LinkActs, LinkTicks, closes};
-ghost use Rattle.net_edge.specs.Playing.{told_down, HearsLink, AreTaken};
+ghost use Rattle.net_edge.specs.layers.Playing.{NetCounts, Plays, KeepsRun, BreaksRun, ClientHas};
+ghost use Rattle.net_edge.specs.layers.Playing.{LinkHas, LinkTells, LinkSays, LinkActs, LinkTicks};
+ghost use Rattle.net_edge.specs.layers.Playing.{closes};
+ghost use Rattle.net_edge.specs.layers.Playing.{told_down, HearsLink, AreTaken};
 ghost use Rattle.net_edge.specs.Scene.{Scene};
-ghost use Rattle.net_edge.specs.Sessions.{session_setup, asked_of};
+ghost use Rattle.net_edge.specs.layers.Sessions.{session_setup, asked_of};
 
 use crate::error::DemoError;
 use crate::lines::MOST_CALLS;

@@ -11,11 +11,11 @@ ghost use Rattle.venue_core.specs.Plan.{plan, plan_command};
 ghost use Rattle.session_ends.specs.Events.{Event};
 ghost use Rattle.grp_session.specs.Budget.{Counted, Spent};
 ghost use Rattle.grp_session.specs.Serving.{ProxyStands, Source};
-ghost use Rattle.grp_session.specs.Feeding.{Answered};
+ghost use Rattle.grp_session.specs.layers.Feeding.{Answered};
 ghost use Rattle.spin_server.specs.Served.{Served};
 ghost use Rattle.spin_server.specs.Serving.{SpinStands};
 ghost use Rattle.net_edge.specs.Due.{AreDuePieces, setting, demo_unit, new_datagrams};
-ghost use Rattle.net_edge.specs.Markets.{StillHas, SideAt, HasAccepted, gap_source, SpinFed};
+ghost use Rattle.net_edge.specs.layers.Markets.{StillHas, SideAt, HasAccepted, gap_source, SpinFed};
 ghost use Rattle.unit_market.specs.Views.{image_view};
 
 use grp_session::{GapBudget, GrpServer};

@@ -6,8 +6,8 @@ ghost use Rattle.pitch_text.specs.declared.verb.Session.TheVariants.{Grp, Spin};
 ghost use Rattle.pitch_model.specs.History.{Entry};
 ghost use Rattle.world_model.specs.State.{Connection, LooksIn};
 ghost use Rattle.world_model.specs.Verbs.{down_of};
-ghost use Rattle.net_edge.specs.Playing.{ClientHas, LinkHas, LinkSays};
-ghost use Rattle.net_edge.specs.Sessions.{end_of, session_setup, asked_of};
+ghost use Rattle.net_edge.specs.layers.Playing.{ClientHas, LinkHas, LinkSays};
+ghost use Rattle.net_edge.specs.layers.Sessions.{end_of, session_setup, asked_of};
 
 use client_core::UnitClient;
 use client_links::{Link, Peer, ProxyPeer, SpinPeer};

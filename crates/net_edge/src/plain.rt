@@ -1,6 +1,6 @@
 //! The venue's side without a shared unit: a market. What it packs is not sent.
 
-ghost use Rattle.net_edge.specs.Markets.{PlainHas};
+ghost use Rattle.net_edge.specs.layers.Markets.{PlainHas};
 
 use crate::market::VenueSide;
 use grp_session::{GapBudget, GrpServer, look_laws};

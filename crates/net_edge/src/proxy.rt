@@ -16,10 +16,11 @@ ghost use Rattle.world_model.specs.Verbs.{at_server_of};
 ghost use Rattle.net_edge.specs.Acting.{taken_at, where_stands, is_group_open};
 ghost use Rattle.net_edge.specs.Breaking.{Breaks};
 ghost use Rattle.net_edge.specs.Due.{Setting, demo_unit};
-ghost use Rattle.net_edge.specs.Markets.{StillHas, SideAt};
-ghost use Rattle.net_edge.specs.Playing.{NetCounts, Plays, KeepsRun, BreaksRun};
-ghost use Rattle.net_edge.specs.Playing.{ProxyHas, ProxyFed, ProxyAnswers, ProxyServes, ProxySays};
-ghost use Rattle.net_edge.specs.Playing.{ProxyActs, AreTaken};
+ghost use Rattle.net_edge.specs.layers.Markets.{StillHas, SideAt};
+ghost use Rattle.net_edge.specs.layers.Playing.{NetCounts, Plays, KeepsRun, BreaksRun};
+ghost use Rattle.net_edge.specs.layers.Playing.{ProxyHas, ProxyFed, ProxyAnswers, ProxyServes};
+ghost use Rattle.net_edge.specs.layers.Playing.{ProxySays};
+ghost use Rattle.net_edge.specs.layers.Playing.{ProxyActs, AreTaken};
 ghost use Rattle.net_edge.specs.Scene.{Scene, got_end};
 
 use crate::error::DemoError;

@@ -6,7 +6,7 @@ ghost use Rattle.unit_packets.specs.Packing.{bytes_in};
 ghost use Rattle.net_edge.specs.Acting.{sent_on, end_puts};
 ghost use Rattle.net_edge.specs.Breaking.{Breaks};
 ghost use Rattle.net_edge.specs.Due.{Setting, IsDuePiece, AreDuePieces};
-ghost use Rattle.net_edge.specs.Playing.{NetCounts, Plays, KeepsRun, BreaksRun};
+ghost use Rattle.net_edge.specs.layers.Playing.{NetCounts, Plays, KeepsRun, BreaksRun};
 ghost use Rattle.net_edge.specs.Scene.{Scene};
 
 use crate::error::DemoError;

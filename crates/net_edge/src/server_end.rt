@@ -8,8 +8,8 @@ ghost use Rattle.pitch_io.specs.declared.net.NetTaken.{NetTaken as TakenSaid};
 ghost use Rattle.net_edge.specs.Acting.{is_group_open};
 ghost use Rattle.net_edge.specs.Breaking.{Breaks};
 ghost use Rattle.net_edge.specs.Due.{Setting, call_room};
-ghost use Rattle.net_edge.specs.Markets.{StillHas, SideAt};
-ghost use Rattle.net_edge.specs.Playing.{NetCounts, AreTaken};
+ghost use Rattle.net_edge.specs.layers.Markets.{StillHas, SideAt};
+ghost use Rattle.net_edge.specs.layers.Playing.{NetCounts, AreTaken};
 ghost use Rattle.net_edge.specs.Scene.{Scene, is_got, got_end};
 
 use crate::error::DemoError;

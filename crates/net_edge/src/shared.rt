@@ -3,7 +3,7 @@
 
 ghost use Rattle.std.specs.Prelude.{◌≡◌, [], false, IfOk};
 ghost use Rattle.net_edge.specs.Due.{kept_messages};
-ghost use Rattle.net_edge.specs.Markets.{SharedHas};
+ghost use Rattle.net_edge.specs.layers.Markets.{SharedHas};
 
 use crate::market::VenueSide;
 use grp_session::{GapBudget, GrpServer};
@@ -32,8 +32,8 @@ pub(crate) struct SharedMarket<J: Naming, R: FixedRun, W: Wait + Drop> {
 
 impl<J: Naming, R: FixedRun, W: Wait + Drop> Model for SharedMarket<J, R, W> {
     ghost use Rattle.std.specs.Prelude.{◌≡◌, ◌≤◌, false, length};
-    ghost use Rattle.shared_unit.specs.Coding.{writing_code};
-    ghost use Rattle.shared_unit.specs.Moments.{Writing};
+    ghost use Rattle.shared_unit.specs.layers.Coding.{writing_code};
+    ghost use Rattle.shared_unit.specs.layers.Moments.{Writing};
     ghost use Rattle.net_edge.specs.Due.{kept_messages};
 
     ghost Value = { Writing };

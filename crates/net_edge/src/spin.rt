@@ -3,7 +3,7 @@
 ghost use Rattle.std.specs.Prelude.{◌≡◌, ◌≤◌, ◌<◌, ℕ, Bool, false, true, ◌||◌, ◌&&◌, not, List, []};
 ghost use Rattle.std.specs.Prelude.{◌∷◌, ◌++◌, length, OnOk, IfOk, IfErr, if◌then◌else◌};
 ghost use Rattle.pitch_io.specs.Nets.{Call};
-ghost use Rattle.pitch_io.specs.Coming.{came, CameWithin};
+ghost use Rattle.pitch_io.specs.layers.Coming.{came, CameWithin};
 ghost use Rattle.pitch_io.specs.declared.net.NetTaken.{NetTaken as TakenSaid};
 ghost use Rattle.pitch_io.specs.declared.net.NetTaken.TheVariants.{Got};
 ghost use Rattle.session_ends.specs.Events.{Ticked, Told};
@@ -14,9 +14,9 @@ ghost use Rattle.world_model.specs.Verbs.{at_server_of, sent_whole};
 ghost use Rattle.net_edge.specs.Acting.{where_stands, is_group_open, spin_server_fed};
 ghost use Rattle.net_edge.specs.Acting.{spin_answered};
 ghost use Rattle.net_edge.specs.Due.{Setting, demo_unit};
-ghost use Rattle.net_edge.specs.Markets.{StillHas, SideAt};
-ghost use Rattle.net_edge.specs.Playing.{NetCounts, Plays, KeepsRun, BreaksRun, SpinHas};
-ghost use Rattle.net_edge.specs.Playing.{SpinSays, SpinActs, SpinServes, AreTaken};
+ghost use Rattle.net_edge.specs.layers.Markets.{StillHas, SideAt};
+ghost use Rattle.net_edge.specs.layers.Playing.{NetCounts, Plays, KeepsRun, BreaksRun, SpinHas};
+ghost use Rattle.net_edge.specs.layers.Playing.{SpinSays, SpinActs, SpinServes, AreTaken};
 ghost use Rattle.net_edge.specs.Scene.{Scene, is_got, got_end};
 
 use crate::error::DemoError;

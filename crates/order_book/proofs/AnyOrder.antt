@@ -18,7 +18,7 @@ use Rattle.pitch_messages.specs.declared.order.Order.{Order}
 use Rattle.pitch_model.specs.Levels.{best_of, shares, level, with_level, best, prices_on}
 use Rattle.order_book.specs.Symbols.{StatusMap}
 use Rattle.order_book.specs.Standing.{book_of}
-use Rattle.order_book.specs.Totals.{is_on, quantities, best_level}
+use Rattle.order_book.specs.layers.Totals.{is_on, quantities, best_level}
 use Rattle.order_book.proofs.Maps.{id_keys, looks, absent}
 use Rattle.order_book.proofs.Bests.{with_price, prices_swap}
 

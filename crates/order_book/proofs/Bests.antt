@@ -8,7 +8,7 @@ use Rattle.pitch_messages.specs.declared.order.Order.{Order}
 use Rattle.pitch_fields.specs.declared.side.Side.{Side}
 use Rattle.pitch_fields.specs.declared.side.Side.TheVariants.{Buy, Sell}
 use Rattle.pitch_model.specs.Levels.{better, best_of}
-use Rattle.order_book.specs.Totals.{quantities, best_level, level_with}
+use Rattle.order_book.specs.layers.Totals.{quantities, best_level, level_with}
 
 -- one more price
 abbrev pub with_price : Side → ℕ → Option ℕ → Option ℕ

@@ -7,7 +7,7 @@ use Rattle.pitch_messages.specs.declared.message.Message.{Message}
 use Rattle.pitch_messages.specs.Forms.{add_message, status_message}
 use Rattle.pitch_messages.specs.Writing.{written}
 use Rattle.pitch_model.specs.Book.{Book}
-use Rattle.order_book.specs.Images.{adds_of, raws_of}
+use Rattle.order_book.specs.layers.Images.{adds_of, raws_of}
 use Rattle.pitch_model.specs.Image.{clock_of, image_of}
 use Rattle.pitch_model.specs.Levels.{orders_of}
 use Rattle.pitch_model.specs.Statuses.{statuses_of}

@@ -12,10 +12,10 @@ use Rattle.pitch_model.specs.Book.{Book, IsBook, symbol_cmp, book_after}
 use Rattle.pitch_model.specs.Image.{image_of}
 use Rattle.pitch_model.specs.Levels.{orders_of}
 use Rattle.pitch_model.specs.Statuses.{symbol_state, statuses_of}
-use Rattle.pitch_model.specs.Widths.{FitsWire, FitsStatus}
+use Rattle.pitch_model.specs.layers.Widths.{FitsWire, FitsStatus}
 use Rattle.pitch_model.proofs.Images.{image_of_leaves}
 use Rattle.pitch_model.proofs.Putting.{tied}
-use Rattle.order_book.specs.Images.{FitsState}
+use Rattle.order_book.specs.layers.Images.{FitsState}
 
 order_found : (id : ℕ) (order : Order) (es : List (ℕ × Order))
     → AllByRecursion FitsWire (map (λ e. e.1) es) → find nat_cmp id es ≡ Some order → FitsWire order

@@ -1,6 +1,5 @@
 pub mod Naming
 pub mod Standing
 pub mod Symbols
-pub mod Totals
-pub mod Images
 pub mod Turns
+pub mod layers

@@ -8,8 +8,8 @@ ghost use Rattle.pitch_messages.specs.Writing.{written};
 ghost use Rattle.pitch_model.specs.History.{adds};
 ghost use Rattle.pitch_model.specs.Book.{book_after};
 ghost use Rattle.pitch_model.specs.Image.{clock_of, image_of};
-ghost use Rattle.pitch_model.specs.Widths.{FitsWire};
-ghost use Rattle.order_book.specs.Images.{FitsState, adds_of, raws_of};
+ghost use Rattle.pitch_model.specs.layers.Widths.{FitsWire};
+ghost use Rattle.order_book.specs.layers.Images.{FitsState, adds_of, raws_of};
 
 use crate::order_list::OrderList;
 use crate::statuses::StatusList;

@@ -6,7 +6,7 @@ ghost use Rattle.std.specs.Option.{option_map_or};
 ghost use Rattle.indexmap.specs.IndexMap.{values, index_map_len};
 ghost use Rattle.pitch_model.specs.Levels.{same_side, better, best_of};
 ghost use Rattle.order_book.specs.Standing.{most_orders};
-ghost use Rattle.order_book.specs.Totals.{is_on, quantities, level_with, best_level};
+ghost use Rattle.order_book.specs.layers.Totals.{is_on, quantities, level_with, best_level};
 
 use indexmap::IndexMap;
 use pitch_fields::{Price, Side, Symbol};

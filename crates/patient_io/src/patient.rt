@@ -2,7 +2,7 @@
 
 ghost use Rattle.std.specs.Prelude.{IfErr};
 ghost use Rattle.std.specs.Io.{ReadsAtMost, WritesAtMost};
-ghost use Rattle.patient_io.specs.Faults.{IsFault};
+ghost use Rattle.patient_io.specs.layers.Faults.{IsFault};
 
 use crate::waiting::{Ready, wait};
 use std::io;

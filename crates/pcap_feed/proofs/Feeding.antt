@@ -5,7 +5,7 @@ use Rattle.std.specs.List.{concat}
 use Rattle.unit_packets.specs.Causes.{counted}
 use Rattle.unit_packets.proofs.Feeds.{FedOn, all_fed, counted_on}
 use Rattle.pcap_feed.specs.Capture.{Packet, judge_head, judge_record, front_of, is_cut_off, ordered, begin_of, packets_from, left_from, order_told_from, packets_of, left_of, order_told, capture_place, error_in, left_error, capture_fault_from, capture_fault, capture_end_fault}
-use Rattle.pcap_feed.specs.Lent.{StandsAtFront}
+use Rattle.pcap_feed.specs.layers.Lent.{StandsAtFront}
 use Rattle.pcap_feed.specs.Feeding.{CutsRecords, CutsCapture, Stops, Capturing, unfed, HoldsCapture, FeedsCapture, FeedsPieces, CapturePiecesAreCut, CapturePiecesDoNotMatter, WithRoomFor, GoesOn, capture_answer, held_fault_on, held_fault}
 use Rattle.pcap_feed.specs.declared.fault.ByteOrder.{ByteOrder}
 use Rattle.pcap_feed.specs.declared.fault.CaptureError.{CaptureError}

@@ -4,9 +4,9 @@ use Rattle.std.proofs.lemmas.Bool.{cases_Bool, ltb-false, le-ltb, cond-false, co
 use Rattle.std.proofs.lemmas.List.{length-take-le, length-drop, get_or-drop, get_or_append_left, take-append-le, drop-append-le}
 use Rattle.unit_packets.proofs.Judged.{same_from}
 use Rattle.byteorder.specs.Endian.{big_from}
-use Rattle.pcap_feed.specs.Items.{IsFront}
+use Rattle.pcap_feed.specs.layers.Items.{IsFront}
 use Rattle.pcap_feed.specs.Capture.{Packet, number_in, judge_record, front_on, front_of, packet_at, is_cut_off}
-use Rattle.pcap_feed.specs.Lent.{StandsAtFront, Captures, packet_of}
+use Rattle.pcap_feed.specs.layers.Lent.{StandsAtFront, Captures, packet_of}
 use Rattle.pcap_feed.specs.declared.fault.ByteOrder.{ByteOrder}
 use Rattle.pcap_feed.specs.declared.fault.ByteOrder.TheVariants.{Little, Big}
 use Rattle.pcap_feed.specs.declared.fault.CaptureError.{CaptureError}

@@ -4,7 +4,7 @@ use Rattle.std.proofs.Common.{◌≡◌, ℕ, zero, suc, ◌≤◌, Bool, List, 
 use Rattle.std.proofs.lemmas.List.{length-drop, take-append-drop, drop_at}
 use Rattle.unit_packets.proofs.Cuts.{cases_Result}
 use Rattle.pcap_feed.specs.Stream.{Front, items_within, left_over}
-use Rattle.pcap_feed.specs.Items.{IsFront, AreItems, BeginsNoItem, CutsItems, JudgesItems}
+use Rattle.pcap_feed.specs.layers.Items.{IsFront, AreItems, BeginsNoItem, CutsItems, JudgesItems}
 use Rattle.pcap_feed.proofs.Streams.{first_of, none_of}
 
 ok_err : {A E : Type 0} (r : Result A E) (x : A) (e : E) → r ≡ Ok x → r ≡ Err e → ⊥

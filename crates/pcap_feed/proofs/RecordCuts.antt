@@ -2,10 +2,10 @@
 use Rattle.std.proofs.Common.{◌≡◌, ℕ, ◌+◌, ◌≤◌, nat_lt, List, ◌++◌, length, drop, take, sym, ap, ◌∙◌, arith, Ok, subst}
 use Rattle.std.proofs.lemmas.Bool.{le-ltb, cond-false}
 use Rattle.std.proofs.lemmas.List.{length-drop, length-take-le, take-append-drop, take_all, drop-take}
-use Rattle.pcap_feed.specs.Items.{JudgesItems}
+use Rattle.pcap_feed.specs.layers.Items.{JudgesItems}
 use Rattle.pcap_feed.specs.Capture.{Packet, number_in, judge_record, front_of, packet_at, is_cut_off}
-use Rattle.pcap_feed.specs.Lent.{packet_of}
-use Rattle.pcap_feed.specs.Records.{IsRecord, RecordsAreComputed, RecordsAreOne}
+use Rattle.pcap_feed.specs.layers.Lent.{packet_of}
+use Rattle.pcap_feed.specs.layers.Records.{IsRecord, RecordsAreComputed, RecordsAreOne}
 use Rattle.pcap_feed.specs.declared.fault.ByteOrder.{ByteOrder}
 use Rattle.pcap_feed.proofs.Fronts.{IsFinal, judged_by, judge_is, judge_more, judge_fits, judge_counts, front_ok, found_of, packet_more, number_more, records_are_fronts}
 use Rattle.pcap_feed.proofs.OneCutting.{cuts_computed, cuts_one}

@@ -5,7 +5,7 @@ use Rattle.std.proofs.lemmas.List.{length-drop, append-nil, drop-append-le, drop
 use Rattle.unit_packets.proofs.Cuts.{cases_Result}
 use Rattle.pcap_feed.specs.Stream.{Front, items_found, left_over_found, items_within_by}
 use Rattle.pcap_feed.specs.Stream.{left_over_by, items_within, left_over}
-use Rattle.pcap_feed.specs.Items.{IsFront}
+use Rattle.pcap_feed.specs.layers.Items.{IsFront}
 
 by_ok : {I E : Type 0} (front : Front I E) (n : ℕ) (bytes : List ℕ) (found : I × ℕ) → front bytes ≡ Ok found → items_within_by front (suc n) bytes ≡ found.0 ∷ items_within_by front n (drop found.1 bytes)
 unfolding items_within_by

@@ -1,9 +1,7 @@
 pub mod Stream
-pub mod Items
 pub mod Capture
-pub mod Records
 pub mod Causes
 pub mod Feeding
-pub mod Lent
 pub mod Payload
 pub mod Datagrams
+pub mod layers

@@ -3,7 +3,7 @@
 ghost use Rattle.std.specs.Prelude.{◌≡◌, ◌+◌, ◌≤◌, length, IfOk, OnOk};
 ghost use Rattle.pcap_feed.specs.Capture.{number_in, order_named, judge_named, judge_head};
 ghost use Rattle.pcap_feed.specs.Capture.{judge_record};
-ghost use Rattle.pcap_feed.specs.Lent.{Captures};
+ghost use Rattle.pcap_feed.specs.layers.Lent.{Captures};
 
 use crate::fault::{ByteOrder, CaptureError};
 use byteorder::{BigEndian, ByteOrder as _, LittleEndian};

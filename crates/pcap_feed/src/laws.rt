@@ -1,7 +1,7 @@
 //! Laws of captures: one way to cut a file into records, whatever pieces it comes in.
 
 ghost use Rattle.std.specs.Prelude.{[]};
-ghost use Rattle.pcap_feed.specs.Records.{RecordsAreComputed, RecordsAreOne};
+ghost use Rattle.pcap_feed.specs.layers.Records.{RecordsAreComputed, RecordsAreOne};
 ghost use Rattle.pcap_feed.specs.Feeding.{HoldsCapture, CapturePiecesAreCut};
 ghost use Rattle.pcap_feed.specs.Feeding.{CapturePiecesDoNotMatter, unfed};
 

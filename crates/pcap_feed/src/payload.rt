@@ -3,7 +3,7 @@
 ghost use Rattle.std.specs.Prelude.{◌≡◌, ◌+◌, ◌≤◌, ◌<◌, ◌^◌, ℕ, length, IfSome};
 ghost use Rattle.pcap_feed.specs.Payload.{big_at, is_other, in_udp, in_ip, in_frame, type_place};
 ghost use Rattle.pcap_feed.specs.Payload.{payload};
-ghost use Rattle.pcap_feed.specs.Lent.{packet_of};
+ghost use Rattle.pcap_feed.specs.layers.Lent.{packet_of};
 
 use crate::record::Record;
 use byteorder::{BigEndian, ByteOrder};

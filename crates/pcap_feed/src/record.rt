@@ -2,7 +2,7 @@
 
 ghost use Rattle.std.specs.Prelude.{◌≡◌, ◌+◌, ◌≤◌, length, IfOk, IfErr, Err};
 ghost use Rattle.pcap_feed.specs.Capture.{judge_record};
-ghost use Rattle.pcap_feed.specs.Lent.{StandsAtFront};
+ghost use Rattle.pcap_feed.specs.layers.Lent.{StandsAtFront};
 
 use crate::fault::{ByteOrder, CaptureError};
 use crate::judge::{get_u32, judge_record};
@@ -23,7 +23,7 @@ pub struct Record {
 
 impl Model for Record {
     ghost use Rattle.pcap_feed.specs.Capture.{Packet};
-    ghost use Rattle.pcap_feed.specs.Lent.{packet_of};
+    ghost use Rattle.pcap_feed.specs.layers.Lent.{packet_of};
 
     ghost Value = { Packet };
 
@@ -44,7 +44,7 @@ pub struct RecordView<'a> {
 
 impl<'a> Model for RecordView<'a> {
     ghost use Rattle.pcap_feed.specs.Capture.{Packet};
-    ghost use Rattle.pcap_feed.specs.Lent.{packet_of};
+    ghost use Rattle.pcap_feed.specs.layers.Lent.{packet_of};
 
     ghost Value = { Packet };
 

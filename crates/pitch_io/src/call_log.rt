@@ -2,7 +2,7 @@
 
 ghost use Rattle.std.specs.Prelude.{◌≡◌, [], false, None, Some};
 ghost use Rattle.pitch_io.specs.Nets.{Begin, Send, Next, Put as PutCall, Take};
-ghost use Rattle.pitch_io.specs.MemoryNets.{LogsCall, call_of, listed_calls};
+ghost use Rattle.pitch_io.specs.layers.MemoryNets.{LogsCall, call_of, listed_calls};
 
 use crate::line::Line;
 use crate::net::{LinkEnd, NetDone, NetTaken};

@@ -7,13 +7,14 @@ ghost use Rattle.pitch_io.specs.Causes.{HasCause};
 ghost use Rattle.pitch_io.specs.Putting.{PutFailed, PutsWithin};
 ghost use Rattle.pitch_io.specs.Nets.{Begin, NetDoneFailed, NetTakeFailed, Next, Put as PutCall};
 ghost use Rattle.pitch_io.specs.Nets.{Send, Take, other_end};
-ghost use Rattle.pitch_io.specs.Coming.{AnswersWhereListed, CameWithin, ListsCall, came};
-ghost use Rattle.pitch_io.specs.MemoryNets.{CarriesAll, ComesFirst, FollowsScript, IsListed};
-ghost use Rattle.pitch_io.specs.MemoryNets.{IsRest, IsSameButFaults, LeavesDone, LeavesPut};
-ghost use Rattle.pitch_io.specs.MemoryNets.{LeavesTaken, as_carried, end_changed, line_changed};
-ghost use Rattle.pitch_io.specs.MemoryNets.{size_of, taken_of, coming_items, call_counted};
-ghost use Rattle.pitch_io.specs.MemoryNets.{listed_calls, nothing_coming, on_line, one_more};
-ghost use Rattle.pitch_io.specs.MemoryNets.{times_called, to_end};
+ghost use Rattle.pitch_io.specs.layers.Coming.{AnswersWhereListed, CameWithin, ListsCall, came};
+ghost use Rattle.pitch_io.specs.layers.MemoryNets.{CarriesAll, ComesFirst, FollowsScript, IsListed};
+ghost use Rattle.pitch_io.specs.layers.MemoryNets.{IsRest, IsSameButFaults, LeavesDone, LeavesPut};
+ghost use Rattle.pitch_io.specs.layers.MemoryNets.{LeavesTaken, as_carried, end_changed};
+ghost use Rattle.pitch_io.specs.layers.MemoryNets.{line_changed};
+ghost use Rattle.pitch_io.specs.layers.MemoryNets.{size_of, taken_of, coming_items, call_counted};
+ghost use Rattle.pitch_io.specs.layers.MemoryNets.{listed_calls, nothing_coming, on_line, one_more};
+ghost use Rattle.pitch_io.specs.layers.MemoryNets.{times_called, to_end};
 
 use crate::call_log::CallLog;
 use crate::line::Line;
@@ -89,7 +90,7 @@ pub struct MemoryNet {
 }
 
 impl Model for MemoryNet {
-    ghost use Rattle.pitch_io.specs.MemoryNets.{Carried, CarriesAll, listed_calls};
+    ghost use Rattle.pitch_io.specs.layers.MemoryNets.{Carried, CarriesAll, listed_calls};
 
     ghost Value = { Carried };
 

@@ -7,7 +7,8 @@ ghost use Rattle.pitch_io.specs.Causes.{HasCause};
 ghost use Rattle.pitch_io.specs.Putting.{PutsWithin, PutFailed};
 ghost use Rattle.pitch_io.specs.Nets.{Call, Begin, Send, Next, Put as PutCall, Take, NetTakeFailed};
 ghost use Rattle.pitch_io.specs.Nets.{NetDoneFailed};
-ghost use Rattle.pitch_io.specs.Coming.{Coming, ListsCall, came, CameWithin, AnswersWhereListed};
+ghost use Rattle.pitch_io.specs.layers.Coming.{Coming, ListsCall, came, CameWithin};
+ghost use Rattle.pitch_io.specs.layers.Coming.{AnswersWhereListed};
 
 use crate::line::Line;
 use crate::sink::Put;

@@ -1,9 +1,10 @@
 //! What is on its way in a net in memory: datagrams by line, and bytes by end.
 
 ghost use Rattle.std.specs.Prelude.{◌≡◌, ◌<◌, ◌++◌, [], length, take, drop, min, true};
-ghost use Rattle.pitch_io.specs.MemoryNets.{AreFull, ComesFirst, as_carried, datagram_items};
-ghost use Rattle.pitch_io.specs.MemoryNets.{end_changed, line_changed, nothing_coming, on_line};
-ghost use Rattle.pitch_io.specs.MemoryNets.{to_end};
+ghost use Rattle.pitch_io.specs.layers.MemoryNets.{AreFull, ComesFirst, as_carried, datagram_items};
+ghost use Rattle.pitch_io.specs.layers.MemoryNets.{end_changed, line_changed, nothing_coming};
+ghost use Rattle.pitch_io.specs.layers.MemoryNets.{on_line};
+ghost use Rattle.pitch_io.specs.layers.MemoryNets.{to_end};
 ghost use Rattle.pitch_io.specs.Nets.{other_end};
 
 use crate::line::Line;
@@ -26,7 +27,7 @@ pub struct Wires {
 }
 
 impl Model for Wires {
-    ghost use Rattle.pitch_io.specs.MemoryNets.{AreFull, OnItsWay, datagram_items};
+    ghost use Rattle.pitch_io.specs.layers.MemoryNets.{AreFull, OnItsWay, datagram_items};
 
     ghost Value = { OnItsWay };
 

@@ -8,7 +8,7 @@ use Rattle.std.proofs.Math.Seq.{take-append_seam, drop-append_seam}
 use Rattle.std.proofs.lemmas.List.Folds.{concat-append}
 use Rattle.std.proofs.lemmas.Bool.Decides.{nat_tests}
 use Rattle.pitch_messages.specs.Raw.{IsRaw, raws_of, begins_raw}
-use Rattle.pitch_messages.specs.Chains.{IsChain}
+use Rattle.pitch_messages.specs.layers.Chains.{IsChain}
 
 pub raws_none : (n : ℕ) (body : List ℕ) → begins_raw body ≡ false → raws_of n body ≡ []
 unfolding raws_of

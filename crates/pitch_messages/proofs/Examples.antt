@@ -10,7 +10,7 @@ use Rattle.pitch_messages.specs.Table.{needs}
 use Rattle.pitch_messages.specs.Reading.{MessageRow, reads, table}
 use Rattle.pitch_messages.specs.Session.{session_reads, session_written}
 use Rattle.pitch_messages.specs.Writing.{written}
-use Rattle.pitch_messages.specs.Rewriting.{with_reserved_blank}
+use Rattle.pitch_messages.specs.layers.Rewriting.{with_reserved_blank}
 
 -- these are the bytes of the message, and they say the message
 abbrev Stands : Message → List ℕ → Type 0

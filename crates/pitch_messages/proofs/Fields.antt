@@ -4,7 +4,7 @@ use Rattle.std.proofs.lemmas.List.{flat_map_more, take_more, length-take, length
 use Rattle.std.proofs.lemmas.List.Folds.{length-flat_map-take}
 use Rattle.std.proofs.lemmas.Slice.{take-put_mid}
 use borrow.Rule.Slice.PartMut.{put_mid}
-use Rattle.pitch_messages.specs.Chains.{joined}
+use Rattle.pitch_messages.specs.layers.Chains.{joined}
 
 -- the bytes up to a place: one that is not yet set, the type, and the fields so far
 pub record Filled (kind at : ℕ) (bytes fields : List ℕ) : Type 0 where

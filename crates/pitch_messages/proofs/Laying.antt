@@ -13,9 +13,9 @@ use Rattle.pitch_fields.specs.declared.side.Side.{Side}
 use Rattle.pitch_fields.specs.declared.side.Side.TheVariants.{Buy, Sell}
 use Rattle.pitch_fields.proofs.LittleEndian.{bytes_of_number}
 use Rattle.pitch_messages.specs.Fields.{number_bytes, Field, Number, SideByte, Byte, Text, Reserved, Value, Values, Makes, width, widths, spaces, bytes_of, all_bytes, bytes_at, with_side, with_field, with_fields}
-use Rattle.pitch_messages.specs.Rewriting.{blanked, all_blanked}
+use Rattle.pitch_messages.specs.layers.Rewriting.{blanked, all_blanked}
 use Rattle.pitch_messages.specs.Table.{Row, needs, says, row_bytes}
-use Rattle.pitch_messages.specs.Rewriting.{blanked_by}
+use Rattle.pitch_messages.specs.layers.Rewriting.{blanked_by}
 
 -- what is made of what fields say
 abbrev pub made : {A : Type 0} (fields : List Field) → Makes fields A → Values fields → A

@@ -7,8 +7,8 @@ use Rattle.std.proofs.Math.Seq.{take-append_seam, drop-append_seam}
 use Rattle.std.proofs.lemmas.Bool.Decides.{nat_tests}
 use Rattle.pitch_fields.proofs.Bytes.{byte_at}
 use Rattle.pitch_messages.specs.Raw.{IsRaw, raws_of, begins_raw}
-use Rattle.pitch_messages.specs.Chains.{BeginsNoRaw, IsLongestChain, RawsAreLongest}
-use Rattle.pitch_messages.specs.Chains.{LongestChainIsOne}
+use Rattle.pitch_messages.specs.layers.Chains.{BeginsNoRaw, IsLongestChain, RawsAreLongest}
+use Rattle.pitch_messages.specs.layers.Chains.{LongestChainIsOne}
 use Rattle.pitch_messages.proofs.Chains.{raws_are_raw, raws_none, raws_some}
 
 pub begins_parts : (body : List ℕ) → begins_raw body ≡ true → (2 ≤ slice_index body 0) × (slice_index body 0 ≤ length body)

@@ -7,10 +7,10 @@ use Rattle.std.proofs.lemmas.Bool.Decides.{nat_tests}
 use Rattle.pitch_messages.specs.Raw.{IsRaw, kind_of}
 use Rattle.pitch_messages.specs.Fields.{Values}
 use Rattle.pitch_messages.specs.Table.{Row, needs, needs_by, reads_by, row_in}
-use Rattle.pitch_messages.specs.Rewriting.{blanked_by}
+use Rattle.pitch_messages.specs.layers.Rewriting.{blanked_by}
 use Rattle.pitch_messages.specs.Reading.{MessageRow, reads, row_of, row_says, needs_of, table}
 use Rattle.pitch_messages.specs.Writing.{InRow, Known, Unknown, in_row, bytes_in, written}
-use Rattle.pitch_messages.specs.Rewriting.{with_reserved_blank}
+use Rattle.pitch_messages.specs.layers.Rewriting.{with_reserved_blank}
 use Rattle.pitch_messages.specs.declared.message.Message.TheVariants as messages
 use Rattle.pitch_messages.specs.declared.message.ReadError.TheVariants.{Short, BadSide}
 use Rattle.pitch_messages.proofs.Laying.{AreSmall, AllAt, made, fields_said, row_rewritten}

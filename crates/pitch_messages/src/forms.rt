@@ -3,7 +3,7 @@
 ghost use Rattle.std.specs.Prelude.{◌≡◌, ◌≤◌, Ok, IfSome};
 ghost use Rattle.pitch_messages.specs.Reading.{reads};
 ghost use Rattle.pitch_messages.specs.Writing.{written};
-ghost use Rattle.pitch_messages.specs.Rewriting.{HasItsVariant};
+ghost use Rattle.pitch_messages.specs.layers.Rewriting.{HasItsVariant};
 ghost use Rattle.pitch_messages.specs.Forms.{flags_of, short_price, plain_symbol, add_message};
 ghost use Rattle.pitch_messages.specs.Forms.{trade_message, reduce_message, modify_message};
 ghost use Rattle.pitch_messages.specs.Forms.{status_message};

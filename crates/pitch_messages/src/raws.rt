@@ -17,7 +17,7 @@ pub struct Raws<'a> {
 impl<'a> Model for Raws<'a> {
     ghost use Rattle.std.specs.Prelude.{ℕ, List};
     ghost use Rattle.pitch_messages.specs.Raw.{raws_of};
-    ghost use Rattle.pitch_messages.specs.Chains.{IsChain};
+    ghost use Rattle.pitch_messages.specs.layers.Chains.{IsChain};
 
     ghost Value = { List (List ℕ) };
 

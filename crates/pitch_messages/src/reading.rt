@@ -9,7 +9,7 @@ ghost use Rattle.pitch_messages.specs.declared.message.ReadError.TheVariants.{Ba
 ghost use Rattle.pitch_messages.specs.Fields.{bytes_at};
 ghost use Rattle.pitch_messages.specs.Table.{IsWhole, needs};
 ghost use Rattle.pitch_messages.specs.Writing.{written};
-ghost use Rattle.pitch_messages.specs.Rewriting.{with_reserved_blank};
+ghost use Rattle.pitch_messages.specs.layers.Rewriting.{with_reserved_blank};
 ghost use Rattle.pitch_messages.specs.Reading.{needs_of, extra_of, reads, row_of};
 
 use crate::message::{Message, ReadError};

@@ -5,7 +5,7 @@ ghost use Rattle.std.specs.Prelude.{◌≡◌, length};
 ghost use Rattle.pitch_messages.specs.Fields.{number_bytes};
 ghost use Rattle.pitch_messages.specs.Reading.{reads};
 ghost use Rattle.pitch_messages.specs.Writing.{written};
-ghost use Rattle.pitch_messages.specs.Rewriting.{HasItsVariant};
+ghost use Rattle.pitch_messages.specs.layers.Rewriting.{HasItsVariant};
 ghost use Rattle.pitch_messages.specs.declared.message.Message.TheVariants as messages;
 
 use crate::message::Message;

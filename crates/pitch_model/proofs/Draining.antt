@@ -4,8 +4,8 @@ use Rattle.std.proofs.lemmas.Bool.{and_parts, and_from, and_right, lt-ltb, le-lt
 use Rattle.std.proofs.lemmas.Bool.Decides.{nat_tests}
 use Rattle.pitch_model.specs.History.{Entry, Raw, Message, SpinFinished, spin_of, image_finished}
 use Rattle.pitch_model.specs.Reach.{SinceOverflow, grown, is_seen, reach_of, held_count, since_overflow, reach, is_held, is_overflow, sequences}
-use Rattle.pitch_model.specs.Settling.{Draining}
-use Rattle.pitch_model.specs.Steps.{RunsOn, Drains}
+use Rattle.pitch_model.specs.layers.Settling.{Draining}
+use Rattle.pitch_model.specs.layers.Steps.{RunsOn, Drains}
 use Rattle.pitch_model.proofs.Reaching.{reach_is, joined_reach, next_unseen}
 use Rattle.pitch_model.proofs.Steps.{step_next, step_taken}
 use Rattle.pitch_model.proofs.Entries.{settled_at}

@@ -5,8 +5,8 @@ use Rattle.std.proofs.lemmas.Bool.{or_left, or_right, and_right, eq-eqb, lt-ltb,
 use Rattle.std.proofs.lemmas.Bool.Decides.{nat_tests}
 use Rattle.pitch_model.specs.History.{Entry, Raw, Message, SpinFinished, spin_of, image_finished}
 use Rattle.pitch_model.specs.Reach.{SinceOverflow, grown, is_anchor, is_seen, reach_of, held_count, since_overflow, reach, is_held, is_overflow, sequences}
-use Rattle.pitch_model.specs.Settling.{Settled}
-use Rattle.pitch_model.specs.Steps.{SameReach, Leaves}
+use Rattle.pitch_model.specs.layers.Settling.{Settled}
+use Rattle.pitch_model.specs.layers.Steps.{SameReach, Leaves}
 use Rattle.pitch_model.proofs.Reaching.{reach_stops, base_joined, anchors_up_to_reach}
 use Rattle.pitch_model.proofs.Steps.{step_old, step_repeat, step_kept, step_overflow, step_stale}
 use Rattle.pitch_model.proofs.Counting.{held_same, held_more, held_few}

@@ -21,7 +21,7 @@ use Rattle.pitch_model.specs.History.{Raw, is_add, adds, can_promise}
 use Rattle.pitch_model.specs.Image.{IsOfImage, clock_of, image_of, image}
 use Rattle.pitch_model.specs.Levels.{orders_of}
 use Rattle.pitch_model.specs.Statuses.{symbol_state, statuses_of}
-use Rattle.pitch_model.specs.Widths.{FitsWire, FitsStatus, IsWireBook}
+use Rattle.pitch_model.specs.layers.Widths.{FitsWire, FitsStatus, IsWireBook}
 use Rattle.pitch_model.proofs.Books.{book_after_len}
 use Rattle.pitch_model.proofs.Images.{plain_is, short_is}
 use Rattle.pitch_model.proofs.Putting.{all_entries}

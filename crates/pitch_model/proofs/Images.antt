@@ -26,7 +26,7 @@ use Rattle.pitch_fields.specs.Name.{no_participant}
 use Rattle.pitch_model.specs.Levels.{orders_of}
 use Rattle.pitch_model.specs.Statuses.{symbol_state, statuses_of}
 use Rattle.pitch_model.specs.Image.{clock_of, image_messages, image_of, image}
-use Rattle.pitch_model.specs.Widths.{FitsWire, FitsStatus, IsWireBook}
+use Rattle.pitch_model.specs.layers.Widths.{FitsWire, FitsStatus, IsWireBook}
 use Rattle.pitch_model.proofs.Books.{book_after_book}
 use Rattle.pitch_model.proofs.Widths.{book_after_fits}
 use Rattle.pitch_model.proofs.Putting.{put_all, put_entries, all_entries}

@@ -2,7 +2,7 @@
 use Rattle.std.proofs.Common.{◌≡◌, ℕ, zero, suc, ◌≤◌, Bool, true, false, ◌&&◌, cond, List, [], ◌∷◌, eqb, refl, sym, subst, inl, inr, arith}
 use Rattle.std.specs.Set.{is_member}
 use Rattle.std.proofs.lemmas.Bool.{or_cases, and_parts, or_left, or_right, and_from, false≢true, eqb-true, eq-eqb, cases_Bool, both_ways, cases_lt, cases_eq}
-use Rattle.pitch_model.specs.Settling.{AnchorsUpTo}
+use Rattle.pitch_model.specs.layers.Settling.{AnchorsUpTo}
 use Rattle.pitch_model.specs.Reach.{SinceOverflow, Joined, IsReach, is_anchor, is_seen, is_joined, greatest, largest, top_since, reach_of}
 
 -- ---- the greatest that passes

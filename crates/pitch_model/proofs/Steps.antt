@@ -8,7 +8,7 @@ use Rattle.std.proofs.lemmas.Map.Made.{length-from_keys, is_member-filter}
 use Rattle.std.proofs.lemmas.Bool.{or_cases, and_parts, or_from, or_left, or_right, and_right, false≢true, eqb-true, eq-eqb, ne_eqb, lt-ltb, both_ways, cases_eq}
 use Rattle.std.proofs.lemmas.Bool.Decides.{nat_tests}
 use Rattle.pitch_model.specs.Reach.{SinceOverflow, Joined, is_anchor, is_seen, grown, reach_of, held_of, held_count}
-use Rattle.pitch_model.specs.Settling.{AnchorsUpTo, Settled, Draining}
+use Rattle.pitch_model.specs.layers.Settling.{AnchorsUpTo, Settled, Draining}
 use Rattle.pitch_model.proofs.Reaching.{reach_stops, joined_reach, anchors_up_to_reach, next_unseen}
 
 pub drained : (P : SinceOverflow) (n : ℕ) (has : ℕ → Bool) → Draining P n has → has (suc n) ≡ false → Settled P n has

@@ -19,7 +19,7 @@ use Rattle.pitch_model.specs.declared.order_change.OrderChange.TheVariants.{Redu
 use Rattle.pitch_model.specs.Book.{Book, symbol_cmp, with_status, empty_book, reduced_by, left_with, modified, changed_by, long_price, order_of_long, Effect, ShowsSecond, ClearsOrders, AddsOrder, ChangesOrder, RemovesOrder, GivesStatus, DoesNothing, after_effect, effect_of, after_read, after, book_after}
 use Rattle.pitch_model.proofs.Putting.{is_equal}
 use Rattle.pitch_model.proofs.Books.{SameElse, added_else, changed_else, AllOrders, none_all, added_all, changed_all, without_order_all}
-use Rattle.pitch_model.specs.Widths.{FitsWire, FitsStatus, IsWireBook}
+use Rattle.pitch_model.specs.layers.Widths.{FitsWire, FitsStatus, IsWireBook}
 
 -- ---- What a message says fits
 abbrev Fits : ℕ → Order → Type 0

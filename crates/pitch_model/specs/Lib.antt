@@ -2,13 +2,11 @@ pub mod Book
 pub mod Levels
 pub mod Statuses
 pub mod Image
-pub mod Widths
 pub mod History
 pub mod Reach
-pub mod Settling
-pub mod Steps
 pub mod Status
 pub mod Honest
 pub mod Asking
 pub mod Advertising
 pub mod Recovering
+pub mod layers

@@ -16,7 +16,7 @@ ghost use Rattle.pitch_model.specs.Image.{IsOfImage, image_of, image};
 ghost use Rattle.pitch_model.specs.Advertising.{Operation, Accept, Advertise, accepted_at};
 ghost use Rattle.pitch_model.specs.Advertising.{accepted_by, with_sequence, advertised_by};
 ghost use Rattle.pitch_model.specs.Advertising.{last_ten, newest_of};
-ghost use Rattle.pitch_model.specs.Widths.{IsWireBook};
+ghost use Rattle.pitch_model.specs.layers.Widths.{IsWireBook};
 ghost use Rattle.pitch_fields.specs.Fields.{AreBytes};
 ghost use Rattle.pitch_model.specs.Levels.{IsBestOf, best, level, orders_on, prices_on};
 ghost use Rattle.pitch_model.specs.History.{Entry, Raw, Message, SpinFinished, spin_of, images_at};
@@ -30,7 +30,7 @@ ghost use Rattle.pitch_model.specs.declared.ask.Ask.TheVariants.{Gap, Spin};
 ghost use Rattle.pitch_model.specs.Asking.{is_grp_up, is_spin_up, owes, advertised_of, is_idle};
 ghost use Rattle.pitch_model.specs.Asking.{wants, ask_of};
 ghost use Rattle.pitch_model.specs.Recovering.{IsGapAsk, IsSpinAsk};
-ghost use Rattle.pitch_model.specs.Steps.{SameReach, Leaves, Drains};
+ghost use Rattle.pitch_model.specs.layers.Steps.{SameReach, Leaves, Drains};
 
 /// The reach is the greatest number that is joined to an anchor, and no other number is
 /// that.

@@ -14,8 +14,8 @@ use Rattle.stream_print.specs.Putting.{PutsSome}
 use Rattle.stream_print.specs.Told.{Told, IsUntouched}
 use Rattle.stream_print.specs.declared.failure.StreamTrouble.TheVariants.{TooLong}
 use Rattle.pitch_tool.specs.AuditForm.{AuditEnds}
-use Rattle.pitch_tool.specs.Failures.{of_audit}
-use Rattle.pitch_tool.specs.Reading.{IsUnread}
+use Rattle.pitch_tool.specs.layers.Failures.{of_audit}
+use Rattle.pitch_tool.specs.layers.Reading.{IsUnread}
 use Rattle.pitch_tool.specs.declared.failure.Failure.{Failure}
 use Rattle.pitch_tool.specs.declared.failure.Failure.TheVariants.{Usage, BadInput, Read, Write, Net, OutOfMemory}
 use Rattle.pitch_tool.specs.declared.failure.Trouble.TheVariants.{Audit, Blocks}

@@ -8,7 +8,7 @@ use Rattle.net_edge.specs.Due.{setting}
 use Rattle.net_edge.specs.declared.error.DemoError.{DemoError}
 use Rattle.net_edge.specs.declared.error.DemoError.TheVariants as errors
 use Rattle.pitch_tool.specs.DemoForm.{RanDemo, BrokeDemo, DemoEnds}
-use Rattle.pitch_tool.specs.Failures.{of_demo}
+use Rattle.pitch_tool.specs.layers.Failures.{of_demo}
 use Rattle.pitch_tool.specs.Devices.{Wires}
 use Rattle.pitch_tool.specs.declared.failure.Failure.{Failure}
 use Rattle.pitch_tool.specs.declared.failure.Failure.TheVariants as ending

@@ -2,7 +2,7 @@
 use Rattle.std.proofs.Common.{◌≡◌, ◌≢◌, ℕ, List, [], Option, Result, Err, arith, subst}
 use Rattle.pitch_io.specs.Causes.{HasCause}
 use Rattle.pitch_io.specs.Putting.{Grows}
-use Rattle.schedule_replay.specs.Places.{AddsWorlds}
+use Rattle.schedule_replay.specs.layers.Places.{AddsWorlds}
 use Rattle.storm_replay.specs.Storm.{storm_schedule}
 use Rattle.stream_print.specs.Putting.{PutsSome}
 use Rattle.stream_print.specs.Told.{TakesAtMost, between}

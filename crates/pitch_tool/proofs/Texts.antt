@@ -5,7 +5,7 @@ use Rattle.std.specs.Result.{IsErr, IsErrAnd, result_err}
 use Rattle.stream_print.specs.Inputs.{ReadsAll}
 use Rattle.stream_print.specs.Told.{Told, IsUntouched}
 use Rattle.pitch_tool.specs.TextForms.{TextEnds, made}
-use Rattle.pitch_tool.specs.Failures.{IsUnmade}
+use Rattle.pitch_tool.specs.layers.Failures.{IsUnmade}
 use Rattle.pitch_tool.specs.declared.failure.Failure.{Failure}
 use Rattle.pitch_tool.specs.declared.failure.Failure.TheVariants.{Usage, BadInput, Read, Write, Net, OutOfMemory}
 use Rattle.pitch_tool.specs.declared.failure.Trouble.TheVariants.{LongText}

@@ -3,10 +3,8 @@ pub mod DemoForm
 pub mod Devices
 pub mod DrillForm
 pub mod Jobs
-pub mod Failures
 pub mod Program
-pub mod Reading
 pub mod Statuses
 pub mod StormForm
 pub mod TextForms
-pub mod Doing
+pub mod layers

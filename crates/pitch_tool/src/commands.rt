@@ -5,7 +5,7 @@ ghost use Rattle.pitch_io.specs.Causes.{HasCause};
 ghost use Rattle.stream_print.specs.Told.{told, TakesAtMost};
 ghost use Rattle.pitch_tool.specs.Devices.{wires};
 ghost use Rattle.pitch_tool.specs.Jobs.{JobEnds, StopsInTime, most_taken, uses_net};
-ghost use Rattle.pitch_tool.specs.Doing.{CanDo};
+ghost use Rattle.pitch_tool.specs.layers.Doing.{CanDo};
 
 pub mod audit;
 pub mod demo;

@@ -65,7 +65,7 @@ impl From<PutFailed> for Failure {
 
 impl From<StreamFailure> for Failure {
     ghost use Rattle.std.specs.Prelude.{◌≡◌};
-    ghost use Rattle.pitch_tool.specs.Failures.{of_stream};
+    ghost use Rattle.pitch_tool.specs.layers.Failures.{of_stream};
 
     ghost from_gives = { λ stream failure. failure ≡ of_stream stream };
 
@@ -82,7 +82,7 @@ impl From<StreamFailure> for Failure {
 
 impl From<CommandError> for Failure {
     ghost use Rattle.std.specs.Prelude.{◌≡◌};
-    ghost use Rattle.pitch_tool.specs.Failures.{of_commands};
+    ghost use Rattle.pitch_tool.specs.layers.Failures.{of_commands};
 
     ghost from_gives = { λ error failure. failure ≡ of_commands error };
 
@@ -96,7 +96,7 @@ impl From<CommandError> for Failure {
 
 impl From<ReplayError> for Failure {
     ghost use Rattle.std.specs.Prelude.{◌≡◌};
-    ghost use Rattle.pitch_tool.specs.Failures.{of_schedule};
+    ghost use Rattle.pitch_tool.specs.layers.Failures.{of_schedule};
 
     ghost from_gives = { λ error failure. failure ≡ of_schedule error };
 
@@ -110,7 +110,7 @@ impl From<ReplayError> for Failure {
 
 impl From<InputError> for Failure {
     ghost use Rattle.std.specs.Prelude.{◌≡◌};
-    ghost use Rattle.pitch_tool.specs.Failures.{of_audit};
+    ghost use Rattle.pitch_tool.specs.layers.Failures.{of_audit};
 
     ghost from_gives = { λ error failure. failure ≡ of_audit error };
 
@@ -124,7 +124,7 @@ impl From<InputError> for Failure {
 
 impl From<DemoError> for Failure {
     ghost use Rattle.std.specs.Prelude.{◌≡◌};
-    ghost use Rattle.pitch_tool.specs.Failures.{of_demo};
+    ghost use Rattle.pitch_tool.specs.layers.Failures.{of_demo};
 
     ghost from_gives = { λ error failure. failure ≡ of_demo error };
 

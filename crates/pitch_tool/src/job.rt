@@ -1,9 +1,9 @@
 //! From a form of the words to the job that it asks for.
 
 ghost use Rattle.std.specs.Prelude.{◌≡◌};
-ghost use Rattle.pitch_words.specs.Commands.{IsInRange};
+ghost use Rattle.pitch_words.specs.layers.Commands.{IsInRange};
 ghost use Rattle.pitch_tool.specs.Jobs.{job_of as the_job};
-ghost use Rattle.pitch_tool.specs.Doing.{CanDo};
+ghost use Rattle.pitch_tool.specs.layers.Doing.{CanDo};
 
 use pitch_words::Form;
 use storm_replay::Storm;

@@ -4,7 +4,7 @@ ghost use Rattle.std.specs.Prelude.{◌≡◌, ◌≤◌, ◌<◌, ◌+◌, ◌^
 ghost use Rattle.pitch_io.specs.Causes.{HasCause};
 ghost use Rattle.stream_print.specs.Inputs.{ReadsAll};
 ghost use Rattle.stream_print.specs.Told.{told, TakesAtMost};
-ghost use Rattle.pitch_tool.specs.Reading.{IsUnread};
+ghost use Rattle.pitch_tool.specs.layers.Reading.{IsUnread};
 
 use crate::failure::{Failure, Trouble};
 use pitch_io::{Source, Taken};

@@ -5,8 +5,8 @@ ghost use Rattle.pitch_fields.specs.Limits.{text_limit};
 ghost use Rattle.pitch_io.specs.Causes.{HasCause};
 ghost use Rattle.stream_print.specs.Told.{told, TakesAtMost};
 ghost use Rattle.pitch_tool.specs.TextForms.{made, IsMadeOf};
-ghost use Rattle.pitch_tool.specs.Doing.{CanMake};
-ghost use Rattle.pitch_tool.specs.Failures.{IsUnmade};
+ghost use Rattle.pitch_tool.specs.layers.Doing.{CanMake};
+ghost use Rattle.pitch_tool.specs.layers.Failures.{IsUnmade};
 ghost use Rattle.pitch_tool.specs.TextForms.{TextEnds};
 
 use crate::commands::pack::pack;

@@ -10,11 +10,11 @@ use Rattle.clap.specs.Faults.{fault_of}
 use Rattle.long_options.specs.Words.{Described, IsCall, Text}
 use Rattle.long_options.specs.Plain.{described, has_dashes, is_plain}
 use Rattle.long_options.specs.Found.{Options}
-use Rattle.long_options.specs.Finding.{found_options}
+use Rattle.long_options.specs.layers.Finding.{found_options}
 use Rattle.long_options.proofs.Program.{calls_taken, takes_calls}
 use Rattle.pitch_words.specs.Numbers.{IsGivenNumber, IsGivenOr, IsGivenMaybe}
 use Rattle.pitch_words.specs.Forms.{HasNumbers, IsForm, command_of}
-use Rattle.pitch_words.specs.Commands.{HasForm, commands, pitch}
+use Rattle.pitch_words.specs.layers.Commands.{HasForm, commands, pitch}
 use Rattle.pitch_words.specs.declared.form.Form.{Form}
 use Rattle.pitch_text.specs.Defaults.{default_hold}
 use Rattle.pitch_words.specs.declared.form.Form.TheVariants.{Follow, FollowCapture, Show, Pack, Replay, Storm, Drill, Demo, Relay, Quotes, Audit}

@@ -8,7 +8,7 @@ use Rattle.clap.specs.Kinds.{FailsBy, HasKind, Kinds}
 use Rattle.clap.specs.declared.error.Error.{Error}
 use Rattle.clap.specs.declared.error.kind.ErrorKind.TheVariants.{OutOfMemory}
 use Rattle.clap.specs.declared.parser.matches.ArgMatches.{ArgMatches}
-use Rattle.pitch_words.specs.Commands.{pitch}
+use Rattle.pitch_words.specs.layers.Commands.{pitch}
 
 pitch_simple : is_simple pitch ≡ true
 pitch_simple = refl

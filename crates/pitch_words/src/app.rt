@@ -10,7 +10,7 @@ ghost use Rattle.pitch_words.specs.Forms.{pack as pack_words, replay as replay_w
 ghost use Rattle.pitch_words.specs.Forms.{storm as storm_words, drill as drill_words};
 ghost use Rattle.pitch_words.specs.Forms.{demo as demo_words, relay as relay_words};
 ghost use Rattle.pitch_words.specs.Forms.{quotes as quotes_words, audit as audit_words};
-ghost use Rattle.pitch_words.specs.Commands.{pitch};
+ghost use Rattle.pitch_words.specs.layers.Commands.{pitch};
 
 use clap::{Arg, ArgAction, Command};
 use std::alloc::{AllocError, Global};

@@ -3,10 +3,10 @@ ghost use Rattle.std.specs.Prelude.{◌≡◌, ℕ, ◌≤◌, IfNone, IfSome, M
 ghost use Rattle.std.specs.Prelude.{option_map};
 ghost use Rattle.clap.specs.Matches.{found_of};
 ghost use Rattle.clap.specs.Simple.{subcommand_rows_of};
-ghost use Rattle.long_options.specs.Finding.{is_set};
+ghost use Rattle.long_options.specs.layers.Finding.{is_set};
 ghost use Rattle.clap.specs.Walk.{first_of, rows_of};
 ghost use Rattle.pitch_words.specs.Numbers.{IsGivenNumber, IsGivenOr, IsGivenMaybe, IsNumber};
-ghost use Rattle.pitch_words.specs.Commands.{HasForm, IsInRange, follow_form};
+ghost use Rattle.pitch_words.specs.layers.Commands.{HasForm, IsInRange, follow_form};
 ghost use Rattle.pitch_words.specs.declared.form.Form.{Form};
 
 use crate::form::Form;

@@ -2,7 +2,7 @@
 ghost use Rattle.std.specs.Prelude.{◌≡◌, ◌≢◌, IfOk, MatchOption, [], map, string_bytes, true};
 ghost use Rattle.clap.specs.Faults.{fault_of, is_simple_and_free};
 ghost use Rattle.clap.specs.Simple.{app_of, subcommand_of, subcommand_rows_of};
-ghost use Rattle.pitch_words.specs.Commands.{pitch};
+ghost use Rattle.pitch_words.specs.layers.Commands.{pitch};
 
 use crate::app::app;
 use clap::error::ErrorKind;

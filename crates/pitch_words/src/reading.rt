@@ -3,7 +3,7 @@ ghost use Rattle.std.specs.Prelude.{◌≡◌, List, IfOk, IfSome, MatchOption, 
 ghost use Rattle.long_options.specs.Words.{Text};
 ghost use Rattle.long_options.specs.Plain.{has_dashes as some_dashes};
 ghost use Rattle.pitch_words.specs.Forms.{IsForm};
-ghost use Rattle.pitch_words.specs.Commands.{IsInRange};
+ghost use Rattle.pitch_words.specs.layers.Commands.{IsInRange};
 ghost use Rattle.pitch_words.specs.declared.form.Form.{Form};
 
 use crate::form::Form;

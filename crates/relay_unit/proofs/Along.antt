@@ -14,8 +14,8 @@ use Rattle.client_core.specs.declared.client.UnitClient.{UnitClient}
 use Rattle.client_core.specs.Tracks.{Tracks, Keeps}
 use Rattle.relay_unit.specs.Hearing.{is_of_session, heard_told, heard_unsequenced, heard_session}
 use Rattle.relay_unit.specs.RelayText.{IsVenue}
-use Rattle.relay_unit.specs.Changing.{raw_end, end_or, session_end}
-use Rattle.relay_unit.specs.Sending.{SendsOn}
+use Rattle.relay_unit.specs.layers.Changing.{raw_end, end_or, session_end}
+use Rattle.relay_unit.specs.layers.Sending.{SendsOn}
 
 -- ---- What came before is honest
 honest_told : (V : List Raw) (read : Result SessionMessage SessionError) (E : List Entry) → Honest image V (heard_told read E) → Honest image V E

@@ -8,7 +8,7 @@ use Rattle.pitch_model.specs.History.{Entry}
 use Rattle.pitch_model.specs.Reach.{reach_of}
 use Rattle.relay_unit.specs.Hearing.{first_heard, heard_merged, relay_heard}
 use Rattle.relay_unit.specs.Relayed.{relayed, relayed_count}
-use Rattle.relay_unit.specs.Sending.{SendsOn}
+use Rattle.relay_unit.specs.layers.Sending.{SendsOn}
 use Rattle.relay_unit.proofs.Growing.{relayed_ticked}
 
 pub counted : (sent more : ℕ) (all all' added : List (List ℕ)) → all' ≡ all ++ added → sent ≡ length all → more ≡ length added → sent + more ≡ length all'

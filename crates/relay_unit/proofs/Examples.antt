@@ -23,7 +23,7 @@ use Rattle.pitch_model.specs.Statuses.{symbol_state}
 use Rattle.pitch_model.proofs.Examples.{no_statuses}
 use Rattle.feed_lines.specs.Texts.{texts_after}
 use Rattle.heard_items.specs.declared.change.ImageEnd.TheVariants as end
-use Rattle.relay_unit.specs.Changing.{end_or}
+use Rattle.relay_unit.specs.layers.Changing.{end_or}
 use Rattle.relay_unit.specs.Following.{Sends}
 use Rattle.pitch_model.specs.declared.ask.Ask.TheVariants.{Spin}
 use Rattle.relay_unit.specs.Hearing.{first_heard, heard_session, relay_heard, relay_history}

@@ -13,8 +13,9 @@ use Rattle.client_core.specs.Tracks.{Keeps}
 use Rattle.client_core.specs.Client.{current_book}
 use Rattle.client_core.specs.declared.client.UnitClient.{UnitClient}
 use Rattle.relay_unit.specs.Following.{IsStep, AreSteps, sent_in, Sends, HasSent, SendsMore, LacksSequences}
-use Rattle.relay_unit.specs.Calls.{AppendsRelayed, AppendsAny}
-use Rattle.relay_unit.specs.Sending.{SendsFor, SendsApplied, added_datagrams, AddsRelayed, AddsAny}
+use Rattle.relay_unit.specs.layers.Calls.{AppendsRelayed, AppendsAny}
+use Rattle.relay_unit.specs.layers.Sending.{SendsFor, SendsApplied, added_datagrams, AddsRelayed}
+use Rattle.relay_unit.specs.layers.Sending.{AddsAny}
 use Rattle.relay_unit.specs.Stands.{followed_book, relay_unit_of}
 use Rattle.relay_unit.specs.declared.relay.Relay.{Relay}
 use Rattle.relay_unit.proofs.Sending.{clears}

@@ -19,7 +19,7 @@ use Rattle.heard_items.specs.declared.item.Item.TheVariants as item
 use Rattle.heard_items.specs.declared.change.ImageEnd.{ImageEnd}
 use Rattle.heard_items.specs.declared.change.ImageEnd.TheVariants as end
 use Rattle.client_core.proofs.Slices.{slices, no_slice}
-use Rattle.relay_unit.specs.Sending.{SendsOn}
+use Rattle.relay_unit.specs.layers.Sending.{SendsOn}
 use Rattle.relay_unit.specs.Relayed.{sent_for, relayed}
 
 -- the entries of messages add the messages up to the reach

@@ -6,7 +6,7 @@ use Rattle.pitch_model.specs.History.{Entry}
 use Rattle.heard_items.specs.Heard.{heard_sequenced, heard_block}
 use Rattle.heard_items.specs.Changes.{block_change}
 use Rattle.relay_unit.specs.Hearing.{heard_session, heard_merged}
-use Rattle.relay_unit.specs.Changing.{session_change, merged_change}
+use Rattle.relay_unit.specs.layers.Changing.{session_change, merged_change}
 
 pub merged_block : (block : Block) (E : List Entry) → (block.sequence == 0) ≡ false → heard_block block E ≡ heard_merged block E
 merged_block block E some =

@@ -12,10 +12,11 @@ use Rattle.pitch_model.specs.Book.{Book, empty_book, after}
 use Rattle.pitch_model.specs.History.{Entry, Raw}
 use Rattle.unit_clients.specs.Tables.{AtEach, with_place}
 use Rattle.unit_clients.proofs.Placing.{each_set}
-use Rattle.relay_unit.specs.AnyRelays.{book_in, book_at, with_more, HasSentAt, AppendAny, AppendsAnyAt}
-use Rattle.relay_unit.specs.Calls.{AppendsAny}
+use Rattle.relay_unit.specs.layers.AnyRelays.{book_in, book_at, with_more, HasSentAt, AppendAny}
+use Rattle.relay_unit.specs.layers.AnyRelays.{AppendsAnyAt}
+use Rattle.relay_unit.specs.layers.Calls.{AppendsAny}
 use Rattle.relay_unit.specs.Following.{Sends, HasSent}
-use Rattle.relay_unit.specs.Outlets.{JoinsMore}
+use Rattle.relay_unit.specs.layers.Outlets.{JoinsMore}
 use Rattle.relay_unit.specs.Hearing.{first_heard, relay_heard, relay_history}
 use Rattle.relay_unit.specs.Relays.{Relays, StandsFor, StandsAt, IsRelay}
 use Rattle.relay_unit.specs.Sparing.{HasHeard, IsSpentBy, messages_heard}

@@ -1,13 +1,8 @@
 pub mod Hearing
 pub mod Relayed
 pub mod RelayText
-pub mod Changing
-pub mod Sending
 pub mod Stands
 pub mod Following
 pub mod Sparing
 pub mod Relays
-pub mod Outlets
-pub mod Calls
-pub mod AnyRelays
-pub mod Places
+pub mod layers

@@ -6,13 +6,13 @@ ghost use Rattle.pitch_messages.specs.Session.{session_reads};
 ghost use Rattle.pitch_model.specs.History.{Raw as RawBytes};
 ghost use Rattle.heard_items.specs.Heard.{heard};
 ghost use Rattle.heard_items.specs.Changes.{IsItem, change_of};
-ghost use Rattle.client_core.specs.Hearing.{Hears, IsToldBy};
+ghost use Rattle.client_core.specs.layers.Hearing.{Hears, IsToldBy};
 ghost use Rattle.client_core.specs.Weight.{told_by};
-ghost use Rattle.relay_unit.specs.Changing.{raw_end, end_or, session_end, merged_change};
+ghost use Rattle.relay_unit.specs.layers.Changing.{raw_end, end_or, session_end, merged_change};
 ghost use Rattle.relay_unit.specs.Hearing.{is_of_session};
 ghost use Rattle.relay_unit.specs.Hearing.{heard_unsequenced, heard_session, heard_merged};
-ghost use Rattle.relay_unit.specs.Sending.{IsItemOfRaw, KeepsOn, WeighsNoMore};
-ghost use Rattle.relay_unit.specs.Sending.{SendsRelayed, SendsAny, SendsLine};
+ghost use Rattle.relay_unit.specs.layers.Sending.{IsItemOfRaw, KeepsOn, WeighsNoMore};
+ghost use Rattle.relay_unit.specs.layers.Sending.{SendsRelayed, SendsAny, SendsLine};
 
 use client_core::{Change, ImageEnd, Item, UnitClient};
 use order_book::image_of;

@@ -3,7 +3,7 @@
 ghost use Rattle.std.specs.Prelude.{◌≡◌, ℕ, List, length, OnOk, OnErr, refl};
 ghost use Rattle.unit_packets.specs.Blocks.{StaysWithin};
 ghost use Rattle.unit_packets.specs.Packing.{packed};
-ghost use Rattle.relay_unit.specs.Outlets.{ListsMore, JoinsMore};
+ghost use Rattle.relay_unit.specs.layers.Outlets.{ListsMore, JoinsMore};
 
 use pitch_fields::OutOfMemory;
 use pitch_messages::Raws;

@@ -60,13 +60,13 @@ impl Relay {
     ghost use Rattle.pitch_fields.specs.Limits.{most_held};
     ghost use Rattle.unit_packets.specs.Blocks.{StaysWithin};
     ghost use Rattle.pitch_model.specs.Book.{empty_book};
-    ghost use Rattle.relay_unit.specs.Calls.{StandsAfter, AppendsRelayed, OutrunsAfter};
-    ghost use Rattle.relay_unit.specs.Calls.{IsChangeAfter, HearsFew, SpendsFew};
-    ghost use Rattle.relay_unit.specs.Calls.{AppendsAny, CountsAny};
+    ghost use Rattle.relay_unit.specs.layers.Calls.{StandsAfter, AppendsRelayed, OutrunsAfter};
+    ghost use Rattle.relay_unit.specs.layers.Calls.{IsChangeAfter, HearsFew, SpendsFew};
+    ghost use Rattle.relay_unit.specs.layers.Calls.{AppendsAny, CountsAny};
     ghost use Rattle.relay_unit.specs.Following.{HasSent};
     ghost use Rattle.relay_unit.specs.Hearing.{first_heard};
-    ghost use Rattle.relay_unit.specs.Outlets.{Appends};
-    ghost use Rattle.relay_unit.specs.Sending.{AddsRelayed, AddsAny};
+    ghost use Rattle.relay_unit.specs.layers.Outlets.{Appends};
+    ghost use Rattle.relay_unit.specs.layers.Sending.{AddsRelayed, AddsAny};
     ghost use Rattle.relay_unit.specs.Sparing.{HasHeard};
     ghost use Rattle.relay_unit.specs.Stands.{Stands, GoesOn, IsSpent};
     ghost use Rattle.relay_unit.specs.Stands.{relay_unit_of, followed_book};

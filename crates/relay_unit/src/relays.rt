@@ -2,12 +2,12 @@
 
 ghost use Rattle.std.specs.Prelude.{◌≡◌, ◌≤◌, ◌++◌, [], OnOk, OnErr, IfOk, IfErr};
 ghost use Rattle.pitch_fields.specs.Limits.{most_held};
-ghost use Rattle.relay_unit.specs.AnyRelays.{HaveSent, AppendAny, AppendsAnyAt};
-ghost use Rattle.relay_unit.specs.Calls.{HaveRelayedAfter, AppendVenues, AreChanged};
-ghost use Rattle.relay_unit.specs.Calls.{OutrunVenues, SpendFew};
-ghost use Rattle.relay_unit.specs.Outlets.{Appends, JoinsMore};
-ghost use Rattle.relay_unit.specs.Places.{StandsThere, AppendsThere, ChangesThere};
-ghost use Rattle.relay_unit.specs.Places.{OutrunsThere, SpentThere};
+ghost use Rattle.relay_unit.specs.layers.AnyRelays.{HaveSent, AppendAny, AppendsAnyAt};
+ghost use Rattle.relay_unit.specs.layers.Calls.{HaveRelayedAfter, AppendVenues, AreChanged};
+ghost use Rattle.relay_unit.specs.layers.Calls.{OutrunVenues, SpendFew};
+ghost use Rattle.relay_unit.specs.layers.Outlets.{Appends, JoinsMore};
+ghost use Rattle.relay_unit.specs.layers.Places.{StandsThere, AppendsThere, ChangesThere};
+ghost use Rattle.relay_unit.specs.layers.Places.{OutrunsThere, SpentThere};
 ghost use Rattle.relay_unit.specs.Relays.{HaveRelayed};
 
 use crate::relay::{Relay, RelayError};

@@ -11,9 +11,9 @@ use Rattle.pitch_model.specs.Book.{book_after}
 use Rattle.pitch_model.specs.History.{Raw}
 use Rattle.std.proofs.Common.{take}
 use Rattle.feed_lines.specs.BookText.{book_text}
-use Rattle.run_audit.specs.Backward.{BeginsWith, IsAgreed, IsAsked, JudgesBook, Stands}
-use Rattle.run_audit.specs.Finding.{Names, Reads}
-use Rattle.run_audit.specs.Lines.{Compares}
+use Rattle.run_audit.specs.layers.Backward.{BeginsWith, IsAgreed, IsAsked, JudgesBook, Stands}
+use Rattle.run_audit.specs.layers.Finding.{Names, Reads}
+use Rattle.run_audit.specs.layers.Lines.{Compares}
 use Rattle.run_audit.specs.Report.{IsPart, Printed, book_lines, lines_of}
 use Rattle.run_audit.specs.declared.backward.AgreedBook.{AgreedBook}
 use Rattle.run_audit.specs.declared.backward.Asked.{Asked}
@@ -21,7 +21,7 @@ use Rattle.run_audit.specs.declared.lines.Compared.{Compared}
 use Rattle.run_audit.specs.declared.lines.Compared.TheVariants.{Same, Differs}
 use Rattle.run_audit.proofs.Cutting.{few_lines}
 use Rattle.run_audit.proofs.Judging.{part_begins}
-use Rattle.run_audit.specs.Laws.{AreFew}
+use Rattle.run_audit.specs.layers.Laws.{AreFew}
 
 pub on_ok : {A E : Type 0} (P : Type 0) (r : Result A E) → P → OnOk r P
 on_ok P (Ok x) p = p

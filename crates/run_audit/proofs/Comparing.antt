@@ -1,6 +1,6 @@
 -- Lines that are compared one after another.
 use Rattle.std.proofs.Common.{◌≡◌, ℕ, ◌+◌, List, [], ◌∷◌, ◌++◌, length, sym, ap, ◌∙◌, arith, append_assoc, length-append}
-use Rattle.run_audit.specs.Lines.{Passes}
+use Rattle.run_audit.specs.layers.Lines.{Passes}
 
 pub passes_more : (wanted lines left rest left' rest' : List (List ℕ)) (line found : List ℕ) (count : ℕ) → Passes wanted lines left rest count → rest ≡ line ∷ rest' → left ≡ found ∷ left' → found ≡ line → Passes wanted lines left' rest' (count + 1)
 passes_more wanted lines left rest left' rest' line found count P r l e = record {

@@ -5,18 +5,18 @@ use Rattle.std.specs.List.{flat_map, starts_with, AllByRecursion, count_by}
 use Rattle.pitch_messages.specs.Room.{Roomy}
 use Rattle.pitch_model.specs.History.{Raw}
 use Rattle.run_audit.specs.Report.{lines_of, is_inner, is_of_book, Part, Passed, Printed, is_book, part_lines, IsPart, IsFirstWrong, Judges}
-use Rattle.run_audit.specs.Backward.{JudgesBook, Stands}
+use Rattle.run_audit.specs.layers.Backward.{JudgesBook, Stands}
 use Rattle.run_audit.specs.declared.lines.Compared.{Compared}
 use Rattle.run_audit.specs.declared.lines.Compared.TheVariants.{Same, Differs}
 use Rattle.std.proofs.Common.{inl, inr}
-use Rattle.run_audit.specs.Finding.{Finds, Names, Reads}
-use Rattle.run_audit.specs.Lines.{Parts}
+use Rattle.run_audit.specs.layers.Finding.{Finds, Names, Reads}
+use Rattle.run_audit.specs.layers.Lines.{Parts}
 use Rattle.run_audit.specs.declared.verdict.Verdict.TheVariants.{Yes, No}
 use Rattle.run_audit.proofs.Cutting.{few_lines}
 use Rattle.run_audit.proofs.Judging.{part_begins, no_part}
-use Rattle.run_audit.specs.Laws.{AreFew}
+use Rattle.run_audit.specs.layers.Laws.{AreFew}
 use Rattle.run_audit.proofs.Reporting.{first_is, reads_all, wrong_first, wrong_within}
-use Rattle.run_audit.specs.Lines.{book_front}
+use Rattle.run_audit.specs.layers.Lines.{book_front}
 use Rattle.std.specs.Option.{MatchOption}
 use Rattle.std.proofs.lemmas.List.Sums.{sum_by-append}
 use Rattle.std.proofs.lemmas.Bool.{false≢true, or_right, or_from}

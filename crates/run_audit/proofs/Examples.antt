@@ -20,16 +20,16 @@ use Rattle.pitch_model.proofs.Examples.{no_entries, no_orders, no_statuses}
 use Rattle.feed_lines.specs.BookText.{book_head, book_orders, book_text, order_line}
 use Rattle.feed_lines.proofs.Booking.{state_lines}
 use Rattle.run_audit.specs.Causes.{audit_fault_text, verdict_line}
-use Rattle.run_audit.specs.Finding.{Names}
+use Rattle.run_audit.specs.layers.Finding.{Names}
 use Rattle.run_audit.specs.Input.{fault_in_log, gap_at, input_fault, log_size, messages_in, report_in}
-use Rattle.run_audit.specs.Lines.{book_front}
+use Rattle.run_audit.specs.layers.Lines.{book_front}
 use Rattle.run_audit.specs.Report.{Agrees, IsFirstWrong, IsPart, Printed, book_lines, lines_of}
 use Rattle.run_audit.specs.declared.input.AuditFault.TheVariants.{NoSize, CutLog, Faulty}
 use Rattle.run_audit.specs.declared.verdict.Verdict.TheVariants.{Yes, No}
 use Rattle.run_audit.proofs.Deciding.{no_front}
 use Rattle.run_audit.proofs.Fronts.{front_names}
 use Rattle.run_audit.proofs.Judging.{no_part}
-use Rattle.run_audit.specs.Laws.{AreFew}
+use Rattle.run_audit.specs.layers.Laws.{AreFew}
 use Rattle.run_audit.proofs.Reporting.{first_is, reads_book, reads_none, wrong_first, wrong_within}
 
 -- ---- Inputs

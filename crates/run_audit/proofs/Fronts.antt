@@ -7,7 +7,7 @@ use Rattle.std.proofs.lemmas.Bool.{and_parts, and_from, ne_eqb, leb-true}
 use Rattle.std.proofs.lemmas.List.{append_cancel_left}
 use Rattle.std.proofs.lemmas.List.Folds.{list_all-append}
 use Rattle.std.proofs.lemmas.Fmt.{decimal_injective}
-use Rattle.run_audit.specs.Lines.{book_front}
+use Rattle.run_audit.specs.layers.Lines.{book_front}
 use Rattle.text_lines.proofs.KindLemmas.{in_range, decimal_digits, number_again}
 use Rattle.text_lines.specs.Kinds.{number_of}
 use Rattle.std.specs.List.{position_or_len}

@@ -22,7 +22,7 @@ use Rattle.run_audit.specs.declared.verdict.Verdict.{Verdict}
 use Rattle.run_audit.specs.Log.{logged, messages_at, with_block, MayFollow}
 use Rattle.std.proofs.Common.{Result, IsOk, take, take_all}
 use Rattle.std.proofs.Math.Bool.{or-true}
-use Rattle.run_audit.specs.Logging.{LogsAll, LogsOne, IsLogRefused}
+use Rattle.run_audit.specs.layers.Logging.{LogsAll, LogsOne, IsLogRefused}
 use Rattle.run_audit.specs.declared.input.InputError.{InputError}
 use Rattle.run_audit.specs.declared.input.InputError.TheVariants.{Fault, OutOfMemory}
 use Rattle.run_audit.specs.declared.input.AuditFault.{AuditFault}

@@ -11,8 +11,8 @@ use Rattle.pitch_model.specs.Statuses.{statuses_of}
 use Rattle.feed_lines.specs.BookText.{book_orders, book_text, second_text, order_line, status_line}
 use Rattle.pitch_model.specs.History.{Raw}
 use Rattle.run_audit.specs.Report.{lines_of, is_of_book, book_lines, Part, Passed, Printed, is_book, part_lines, IsPart, Agrees, with_end, SameThrough, IsFirstWrong}
-use Rattle.run_audit.specs.Laws.{AreFew}
-use Rattle.run_audit.specs.Lines.{book_front}
+use Rattle.run_audit.specs.layers.Laws.{AreFew}
+use Rattle.run_audit.specs.layers.Lines.{book_front}
 use Rattle.run_audit.proofs.Cutting.{Begins, front_stays}
 use Rattle.run_audit.proofs.Fronts.{front_names, front_rest, front_is_line}
 

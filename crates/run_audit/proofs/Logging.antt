@@ -5,11 +5,11 @@ use Rattle.std.proofs.lemmas.List.{append-nil}
 use Rattle.pitch_messages.specs.Room.{Roomy}
 use Rattle.unit_packets.specs.Blocks.{StaysWithin}
 use Rattle.pitch_model.specs.History.{Raw}
-use Rattle.run_audit.specs.Finding.{messages_of}
+use Rattle.run_audit.specs.layers.Finding.{messages_of}
 use Rattle.std.proofs.Common.{Result, Ok, Err, OnOk, OnErr, IfErr}
 use Rattle.std.proofs.lemmas.Option.{same_Some}
 use Rattle.run_audit.specs.declared.error.AuditError.{AuditError}
-use Rattle.run_audit.specs.Following.{AreShort, IsGapAt}
+use Rattle.run_audit.specs.layers.Following.{AreShort, IsGapAt}
 use Rattle.run_audit.proofs.Walking.{log_at, messages_here}
 
 -- ---- Lists that are short

@@ -7,15 +7,15 @@ use Rattle.std.proofs.lemmas.Grind.{flat_map-append}
 use Rattle.std.proofs.lemmas.List.Sums.{sum_by-append}
 use Rattle.pitch_model.specs.History.{Raw}
 use Rattle.run_audit.specs.Report.{is_of_book, book_lines, Part, Passed, Printed, is_book, part_lines, IsPart, Agrees, with_end, SameThrough, IsFirstWrong}
-use Rattle.run_audit.specs.Lines.{book_front, Parts}
+use Rattle.run_audit.specs.layers.Lines.{book_front, Parts}
 use Rattle.std.proofs.Common.{Result, Ok, Err, IfOk}
 use Rattle.pitch_fields.proofs.Lists.{all_push}
 use Rattle.pitch_messages.specs.Room.{Roomy}
 use Rattle.run_audit.specs.Report.{lines_of}
-use Rattle.run_audit.specs.Backward.{Stands}
-use Rattle.run_audit.specs.Finding.{Finds, IsBookAt, Names, Reads}
+use Rattle.run_audit.specs.layers.Backward.{Stands}
+use Rattle.run_audit.specs.layers.Finding.{Finds, IsBookAt, Names, Reads}
 use Rattle.run_audit.proofs.Judging.{book_begins, no_part, same_front, same_behind, wrong_behind}
-use Rattle.run_audit.specs.Laws.{AreFew}
+use Rattle.run_audit.specs.layers.Laws.{AreFew}
 
 -- ---- One part more
 counted_more : (ps : List Part) (p : Part) → count_by is_book (ps ++ p ∷ []) ≡ count_by is_book ps + cond (is_book p) 1 0

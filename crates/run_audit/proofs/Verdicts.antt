@@ -7,7 +7,7 @@ use Rattle.pitch_model.specs.History.{Raw}
 use Rattle.run_audit.specs.Report.{Part, part_lines, is_book, IsPart, Agrees, with_end, SameThrough, IsFirstWrong, Judges}
 use Rattle.run_audit.specs.declared.verdict.Verdict.TheVariants.{Yes, No}
 use Rattle.run_audit.proofs.Judging.{parts_behind, part_begins}
-use Rattle.run_audit.specs.Laws.{AreFew, VerdictIsOne}
+use Rattle.run_audit.specs.layers.Laws.{AreFew, VerdictIsOne}
 
 -- no parts have no lines
 no_parts : (Vs : ℕ → List Raw) (few : AreFew Vs) (ps : List Part) → AllByRecursion (IsPart Vs) ps → [] ≡ flat_map (part_lines Vs) ps → ps ≡ []

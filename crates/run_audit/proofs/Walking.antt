@@ -11,8 +11,8 @@ use Rattle.pitch_messages.specs.Room.{Roomy}
 use Rattle.std.proofs.Common.{zero, slice_set, slice_index_or}
 use Rattle.std.proofs.lemmas.Option.{slice_get_read}
 use Rattle.feed_lines.specs.BookText.{book_text}
-use Rattle.run_audit.specs.Finding.{messages_of}
-use Rattle.run_audit.specs.Walking.{IsAt, AreAt}
+use Rattle.run_audit.specs.layers.Finding.{messages_of}
+use Rattle.run_audit.specs.layers.Walking.{IsAt, AreAt}
 use Rattle.run_audit.specs.declared.walk.Walk.{Walk}
 
 taken_more : (V : List Raw) (n : ℕ) (raw : Raw) (left : List Raw) → n ≤ length V → drop n V ≡ raw ∷ left → take (n + 1) V ≡ take n V ++ raw ∷ []

@@ -1,11 +1,5 @@
 pub mod Report
 pub mod Log
-pub mod Lines
-pub mod Walking
-pub mod Following
-pub mod Finding
 pub mod Input
 pub mod Causes
-pub mod Logging
-pub mod Backward
-pub mod Laws
+pub mod layers

@@ -4,10 +4,10 @@ ghost use Rattle.std.specs.Prelude.{◌≡◌, ◌⊎◌, ℕ, ◌+◌, ◌<◌,
 ghost use Rattle.std.specs.Prelude.{OnErr, IfOk, IfErr, if◌then◌else◌};
 ghost use Rattle.unit_packets.specs.Blocks.{StaysWithin};
 ghost use Rattle.pitch_model.specs.History.{Raw};
-ghost use Rattle.run_audit.specs.Finding.{messages_of};
+ghost use Rattle.run_audit.specs.layers.Finding.{messages_of};
 ghost use Rattle.run_audit.specs.Log.{HasLogged, MayFollow, messages_at, with_block};
 ghost use Rattle.run_audit.specs.Report.{Judges, lines_of};
-ghost use Rattle.run_audit.specs.Following.{AreShort, HasMore, HasSame, IsGap, IsGapAt};
+ghost use Rattle.run_audit.specs.layers.Following.{AreShort, HasMore, HasSame, IsGap, IsGapAt};
 
 use crate::error::AuditError;
 use crate::report::report_on;
@@ -26,7 +26,7 @@ pub struct Audit {
 
 impl Model for Audit {
     ghost use Rattle.std.specs.Prelude.{ℕ, List, map};
-    ghost use Rattle.run_audit.specs.Following.{AreShort};
+    ghost use Rattle.run_audit.specs.layers.Following.{AreShort};
 
     ghost Value = { List (List (List ℕ)) };
 

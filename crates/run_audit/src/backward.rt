@@ -6,10 +6,10 @@
 ghost use Rattle.std.specs.Prelude.{◌≡◌, ℕ, ◌-◌, ◌≤◌, ◌<◌, List, drop, length, IfOk, IfSome, OnOk};
 ghost use Rattle.std.specs.List.{All, Contains};
 ghost use Rattle.feed_lines.specs.BookText.{book_text};
-ghost use Rattle.run_audit.specs.Backward.{BeginsWith, IsAgreed, IsAsked, Stands};
-ghost use Rattle.run_audit.specs.Finding.{messages_of};
+ghost use Rattle.run_audit.specs.layers.Backward.{BeginsWith, IsAgreed, IsAsked, Stands};
+ghost use Rattle.run_audit.specs.layers.Finding.{messages_of};
 ghost use Rattle.run_audit.specs.Report.{lines_of};
-ghost use Rattle.run_audit.specs.Walking.{AreAt};
+ghost use Rattle.run_audit.specs.layers.Walking.{AreAt};
 ghost use Rattle.run_audit.specs.declared.backward.AgreedBook.{AgreedBook};
 
 use crate::lines::{Compared, ReportLines, compare, is_inner};

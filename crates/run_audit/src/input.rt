@@ -4,7 +4,7 @@ ghost use Rattle.std.specs.Prelude.{◌≡◌, ◌≤◌, ◌<◌, Err, IfOk, If
 ghost use Rattle.run_audit.specs.Log.{messages_at};
 ghost use Rattle.run_audit.specs.Report.{Judges, lines_of};
 ghost use Rattle.run_audit.specs.Input.{Audits, IsRefused};
-ghost use Rattle.run_audit.specs.Logging.{LogsAll, IsLogRefused, LogsOne};
+ghost use Rattle.run_audit.specs.layers.Logging.{LogsAll, IsLogRefused, LogsOne};
 
 use crate::audit::Audit;
 use crate::error::AuditError;

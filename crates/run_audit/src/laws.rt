@@ -3,8 +3,9 @@
 
 ghost use Rattle.std.specs.Prelude.{ℕ, List};
 ghost use Rattle.pitch_model.specs.History.{Raw};
-ghost use Rattle.run_audit.specs.Laws.{AreFew, AreFoundPartByPart, AreWrongFirst, AreWrongWithin};
-ghost use Rattle.run_audit.specs.Laws.{VerdictIsOne};
+ghost use Rattle.run_audit.specs.layers.Laws.{AreFew, AreFoundPartByPart, AreWrongFirst};
+ghost use Rattle.run_audit.specs.layers.Laws.{AreWrongWithin};
+ghost use Rattle.run_audit.specs.layers.Laws.{VerdictIsOne};
 
 /// Behind lines that agree, the first wrong line is that of what follows.
 pub fn wrong_lines_are_found_part_by_part()

@@ -2,7 +2,7 @@
 
 ghost use Rattle.std.specs.Prelude.{◌≡◌, ℕ, ◌<◌, List, [], ◌∷◌, drop, length, MatchOption};
 ghost use Rattle.run_audit.specs.Report.{is_inner, lines_of};
-ghost use Rattle.run_audit.specs.Lines.{Compares};
+ghost use Rattle.run_audit.specs.layers.Lines.{Compares};
 
 use std::marker::Model;
 use text_lines::length_before;

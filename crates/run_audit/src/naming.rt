@@ -1,7 +1,7 @@
 //! Reads the unit and the sequence in the first line of a printed book.
 
 ghost use Rattle.std.specs.Prelude.{◌≡◌, ℕ, ◌<◌, ◌^◌, ◌++◌, ◌∷◌, List, Some, MatchOption, decimal};
-ghost use Rattle.run_audit.specs.Lines.{book_front};
+ghost use Rattle.run_audit.specs.layers.Lines.{book_front};
 
 use text_lines::kinds::number;
 use text_lines::length_before;

@@ -4,11 +4,11 @@ ghost use Rattle.std.specs.Prelude.{◌≡◌, ℕ, ◌≤◌, ◌<◌, length, 
 ghost use Rattle.std.specs.List.{Contains};
 ghost use Rattle.feed_lines.specs.BookText.{book_text};
 ghost use Rattle.pitch_model.specs.Book.{empty_book};
-ghost use Rattle.run_audit.specs.Backward.{JudgesBook, Stands};
+ghost use Rattle.run_audit.specs.layers.Backward.{JudgesBook, Stands};
 ghost use Rattle.run_audit.specs.declared.backward.AgreedBook.{AgreedBook};
-ghost use Rattle.run_audit.specs.Finding.{Finds, IsBookAt, messages_of};
+ghost use Rattle.run_audit.specs.layers.Finding.{Finds, IsBookAt, messages_of};
 ghost use Rattle.run_audit.specs.Report.{Judges, lines_of};
-ghost use Rattle.run_audit.specs.Walking.{AreAt};
+ghost use Rattle.run_audit.specs.layers.Walking.{AreAt};
 
 use crate::backward::{AgreedBook, agreed_at, agreed_backward};
 use crate::lines::{Compared, ReportLines, compare, is_inner};

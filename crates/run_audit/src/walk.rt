@@ -2,7 +2,7 @@
 
 ghost use Rattle.std.specs.Prelude.{◌≡◌, ℕ, ◌≤◌, List, length, drop, take, IfOk, OnOk};
 ghost use Rattle.pitch_model.specs.History.{Raw};
-ghost use Rattle.run_audit.specs.Walking.{AreAt, IsAt};
+ghost use Rattle.run_audit.specs.layers.Walking.{AreAt, IsAt};
 
 use order_book::UnitBook;
 use pitch_fields::OutOfMemory;

@@ -14,7 +14,9 @@ use Rattle.text_lines.specs.Text.{said_on, line_of, lines_of}
 use Rattle.text_lines.specs.Items.{item_of}
 use Rattle.text_lines.proofs.FieldLemmas.{split_first, parts_after}
 use Rattle.text_lines.proofs.TextLemmas.{is_feed, items_first}
-use Rattle.schedule_replay.specs.Stretches.{AreListed, AreWholeLines, IsCut, Owned, Splits, StretchPart, items_at, items_in, list_at, list_on, part_at, parts_of, stretches_of}
+use Rattle.schedule_replay.specs.layers.Stretches.{AreListed, AreWholeLines, IsCut, Owned, Splits}
+use Rattle.schedule_replay.specs.layers.Stretches.{StretchPart, items_at, items_in, list_at}
+use Rattle.schedule_replay.specs.layers.Stretches.{list_on, part_at, parts_of, stretches_of}
 use Rattle.schedule_replay.specs.declared.stretches.Stretch.{Stretch}
 
 abbrev Items : Type 0

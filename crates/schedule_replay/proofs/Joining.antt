@@ -18,11 +18,15 @@ use Rattle.text_lines.proofs.TextLemmas.{items_all}
 use Rattle.pitch_text.specs.ScheduleGrammar.{entry, schedule_entry}
 use Rattle.world_model.specs.Stands.{WorldStands}
 use Rattle.world_model.specs.declared.world.World.{World}
-use Rattle.schedule_replay.specs.Merging.{own, first_piece}
+use Rattle.schedule_replay.specs.layers.Merging.{own, first_piece}
 use Rattle.schedule_replay.specs.Replay.{verbs_of, limits_of, replay_line, replay_text, schedule_of}
-use Rattle.schedule_replay.specs.Runs.{entries_among, without_fault, AreFilled, AreOf, ArePartsOf, part_entries, part_texts, cut_by, Ran, left_pieces, pieces_on, pieces_at, put_together, AreRunsAt, is_filled, has_world}
-use Rattle.schedule_replay.specs.Stretches.{IsCut, Owned, StretchPart, items_at, items_in, parts_of, stretches_of}
-use Rattle.schedule_replay.specs.Places.{IsPlace, ArePlaces}
+use Rattle.schedule_replay.specs.layers.Runs.{entries_among, without_fault, AreFilled, AreOf}
+use Rattle.schedule_replay.specs.layers.Runs.{ArePartsOf, part_entries, part_texts, cut_by, Ran}
+use Rattle.schedule_replay.specs.layers.Runs.{left_pieces, pieces_on, pieces_at, put_together}
+use Rattle.schedule_replay.specs.layers.Runs.{AreRunsAt, is_filled, has_world}
+use Rattle.schedule_replay.specs.layers.Stretches.{IsCut, Owned, StretchPart, items_at, items_in}
+use Rattle.schedule_replay.specs.layers.Stretches.{parts_of, stretches_of}
+use Rattle.schedule_replay.specs.layers.Places.{IsPlace, ArePlaces}
 use Rattle.schedule_replay.specs.declared.merging.Unmerged.{Unmerged}
 use Rattle.schedule_replay.specs.declared.stretches.Stretch.{Stretch}
 use Rattle.schedule_replay.specs.declared.units.UnitRun.{UnitRun}

@@ -19,9 +19,12 @@ use Rattle.text_lines.specs.declared.fault.TextError.{TextError}
 use Rattle.text_lines.specs.declared.fault.TextError.TheVariants as errors
 use Rattle.world_model.specs.declared.world.World.{World}
 use Rattle.schedule_replay.specs.Replay.{replay_line}
-use Rattle.schedule_replay.specs.Runs.{later, entries_among, without_fault, AreOf, ArePartsOf, part_entries, part_texts, RunsLines, cut_by, lengths_total, Ran}
-use Rattle.schedule_replay.specs.Stretches.{AreListed, Owned, StretchPart, items_at, list_at, part_at, parts_of, stretches_of, unit_parts}
-use Rattle.schedule_replay.specs.Places.{IsPlace}
+use Rattle.schedule_replay.specs.layers.Runs.{later, entries_among, without_fault, AreOf}
+use Rattle.schedule_replay.specs.layers.Runs.{ArePartsOf, part_entries, part_texts, RunsLines}
+use Rattle.schedule_replay.specs.layers.Runs.{cut_by, lengths_total, Ran}
+use Rattle.schedule_replay.specs.layers.Stretches.{AreListed, Owned, StretchPart, items_at, list_at}
+use Rattle.schedule_replay.specs.layers.Stretches.{part_at, parts_of, stretches_of, unit_parts}
+use Rattle.schedule_replay.specs.layers.Places.{IsPlace}
 use Rattle.schedule_replay.specs.declared.stretches.Stretch.{Stretch}
 use Rattle.schedule_replay.specs.declared.units.UnitRun.{UnitRun}
 use Rattle.schedule_replay.specs.declared.unrun.CantRunApart.{CantRunApart}

@@ -20,7 +20,7 @@ use Rattle.world_model.specs.declared.limits.Limits.{Limits}
 use Rattle.world_model.specs.declared.world.World.{World}
 use Rattle.schedule_replay.specs.Replay.{verbs_of, limits_at, limits_of, replay_line}
 use Rattle.schedule_replay.specs.Worlds.{IsNamed, AreWorldsOf, AreAllWorlds}
-use Rattle.schedule_replay.specs.Places.{IsPlace, IsReady, ArePlaces, worlds_in}
+use Rattle.schedule_replay.specs.layers.Places.{IsPlace, IsReady, ArePlaces, worlds_in}
 
 -- ---- The verbs of a unit
 

@@ -13,7 +13,7 @@ use Rattle.text_lines.proofs.TextLemmas.{Taken, takes_none, takes_entry, answer_
 use Rattle.world_model.specs.declared.world.World.{World}
 use Rattle.schedule_replay.specs.Causes.{replay_error}
 use Rattle.schedule_replay.specs.Replay.{replay_line, replay_text, schedule_on, schedule_of, replay_on, replay_of}
-use Rattle.schedule_replay.specs.Places.{ArePlaces, RunsText}
+use Rattle.schedule_replay.specs.layers.Places.{ArePlaces, RunsText}
 use Rattle.schedule_replay.specs.declared.error.ReplayError.{ReplayError}
 
 -- the items of a text

@@ -8,8 +8,9 @@ use Rattle.pitch_text.specs.declared.verb.Verb.{Verb}
 use Rattle.world_model.specs.Printed.{verb_text}
 use Rattle.world_model.specs.Verbs.{state_of}
 use Rattle.schedule_replay.specs.Replay.{verbs_of, limits_of, replay_line}
-use Rattle.schedule_replay.specs.Merging.{own, pieces_after, first_piece, merged, LinesStandApart}
-use Rattle.schedule_replay.specs.Merging.{UnitsRunApart}
+use Rattle.schedule_replay.specs.layers.Merging.{own, pieces_after, first_piece, merged}
+use Rattle.schedule_replay.specs.layers.Merging.{LinesStandApart}
+use Rattle.schedule_replay.specs.layers.Merging.{UnitsRunApart}
 
 pub own_same : (unit : ℕ) (e : ScheduleEntry) (es : List ScheduleEntry) → eqb e.unit unit ≡ true → own unit (e ∷ es) ≡ e ∷ own unit es
 own_same unit e es same = ap (λ (b : Bool). cond b (e ∷ own unit es) (own unit es)) same

@@ -3,9 +3,9 @@
 ghost use Rattle.std.specs.Prelude.{◌≡◌, ◌≤◌, ◌<◌, ◌++◌, List, ℕ, length, take, OnOk, OnErr, Ok};
 ghost use Rattle.pitch_fields.specs.Limits.{text_limit};
 ghost use Rattle.schedule_replay.specs.Replay.{replay_of};
-ghost use Rattle.schedule_replay.specs.Runs.{AreFilled, AreRunsAt};
-ghost use Rattle.schedule_replay.specs.Stretches.{AreListed, Owned, parts_of};
-ghost use Rattle.schedule_replay.specs.Places.{AddsWorlds};
+ghost use Rattle.schedule_replay.specs.layers.Runs.{AreFilled, AreRunsAt};
+ghost use Rattle.schedule_replay.specs.layers.Stretches.{AreListed, Owned, parts_of};
+ghost use Rattle.schedule_replay.specs.layers.Places.{AddsWorlds};
 
 use crate::merging::{Unmerged, are_filled, merge, no_lefts, put_pieces};
 use crate::running::{LAST_UNIT, PLACES, WorldList, all_worlds, no_worlds};

@@ -2,7 +2,7 @@
 //! definitions alone.
 
 ghost use Rattle.std.specs.Prelude.{◌≡◌};
-ghost use Rattle.schedule_replay.specs.Merging.{LinesStandApart, UnitsRunApart};
+ghost use Rattle.schedule_replay.specs.layers.Merging.{LinesStandApart, UnitsRunApart};
 ghost use Rattle.schedule_replay.specs.Replay.{open_alone, limits_at, default_limits};
 
 /// A line writes what it writes after the lines of its own unit alone. So a schedule writes what

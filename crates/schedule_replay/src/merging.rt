@@ -3,11 +3,12 @@
 ghost use Rattle.std.specs.Prelude.{◌≡◌, ◌<◌, ◌++◌, ℕ, List, [], drop, length, take, OnOk, IfOk};
 ghost use Rattle.std.specs.Prelude.{IfSome, IsTrue, slice_get};
 ghost use Rattle.std.specs.List.{AllByRecursion};
-ghost use Rattle.schedule_replay.specs.Merging.{first_piece};
-ghost use Rattle.schedule_replay.specs.Runs.{put_together, left_pieces, pieces_at, has_world};
-ghost use Rattle.schedule_replay.specs.Runs.{AreFilled, AreRunsAt, Ran};
-ghost use Rattle.schedule_replay.specs.Stretches.{StretchPart};
-ghost use Rattle.schedule_replay.specs.Places.{ArePlaces};
+ghost use Rattle.schedule_replay.specs.layers.Merging.{first_piece};
+ghost use Rattle.schedule_replay.specs.layers.Runs.{put_together, left_pieces, pieces_at};
+ghost use Rattle.schedule_replay.specs.layers.Runs.{has_world};
+ghost use Rattle.schedule_replay.specs.layers.Runs.{AreFilled, AreRunsAt, Ran};
+ghost use Rattle.schedule_replay.specs.layers.Stretches.{StretchPart};
+ghost use Rattle.schedule_replay.specs.layers.Places.{ArePlaces};
 
 use crate::running::put;
 use crate::stretches::Stretch;

@@ -3,9 +3,9 @@
 ghost use Rattle.std.specs.Prelude.{◌≡◌, ◌≤◌, ◌++◌, ◌⊎◌, List, ℕ, length, take, OnOk, OnErr, IfErr};
 ghost use Rattle.std.specs.Prelude.{Ok, Err};
 ghost use Rattle.pitch_fields.specs.Limits.{text_limit};
-ghost use Rattle.schedule_replay.specs.Apart.{most_workers};
+ghost use Rattle.schedule_replay.specs.layers.Apart.{most_workers};
 ghost use Rattle.schedule_replay.specs.Replay.{replay_of};
-ghost use Rattle.schedule_replay.specs.Places.{AddsWorlds};
+ghost use Rattle.schedule_replay.specs.layers.Places.{AddsWorlds};
 ghost use Rattle.schedule_replay.specs.declared.error.ReplayError.TheVariants as errors;
 
 use crate::apart::replay_apart;

@@ -8,14 +8,15 @@ ghost use Rattle.pitch_text.specs.declared.verb.ScheduleEntry.{ScheduleEntry as 
 ghost use Rattle.pitch_text.specs.declared.verb.Verb.{Verb as VerbSaid};
 ghost use Rattle.world_model.specs.Printed.{verb_text, shown_at};
 ghost use Rattle.world_model.specs.Stands.{WorldStands};
-ghost use Rattle.world_model.specs.Steps.{AreLimits};
+ghost use Rattle.world_model.specs.layers.Steps.{AreLimits};
 ghost use Rattle.world_model.specs.Verbs.{state_of};
 ghost use Rattle.world_model.specs.declared.limits.Limits.{Limits as LimitsSaid};
 ghost use Rattle.schedule_replay.specs.Causes.{replay_error};
 ghost use Rattle.schedule_replay.specs.Replay.{verbs_of, default_limits, limits_at, limits_of};
 ghost use Rattle.schedule_replay.specs.Replay.{replay_line, replay_of, schedule_of};
-ghost use Rattle.schedule_replay.specs.Places.{AddsWorlds, ArePlaces, IsPlace, IsReady, RunsText};
-ghost use Rattle.schedule_replay.specs.Places.{worlds_in};
+ghost use Rattle.schedule_replay.specs.layers.Places.{AddsWorlds, ArePlaces, IsPlace, IsReady};
+ghost use Rattle.schedule_replay.specs.layers.Places.{RunsText};
+ghost use Rattle.schedule_replay.specs.layers.Places.{worlds_in};
 ghost use Rattle.schedule_replay.specs.declared.error.ReplayError.TheVariants as errors;
 
 use crate::error::ReplayError;

@@ -3,7 +3,7 @@
 ghost use Rattle.std.specs.Prelude.{◌≡◌, ◌≤◌, ◌<◌, ◌++◌, ◌∷◌, ◌==◌, [], ℕ, length, take, OnOk};
 ghost use Rattle.std.specs.Prelude.{IfOk, if◌then◌else◌};
 ghost use Rattle.pitch_fields.specs.Limits.{text_limit};
-ghost use Rattle.schedule_replay.specs.Stretches.{AreWholeLines, Splits, IsCut, list_at};
+ghost use Rattle.schedule_replay.specs.layers.Stretches.{AreWholeLines, Splits, IsCut, list_at};
 
 use crate::running::PLACES;
 use crate::unrun::CantRunApart;

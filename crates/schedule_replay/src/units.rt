@@ -5,10 +5,10 @@ ghost use Rattle.std.specs.Prelude.{slice_get};
 ghost use Rattle.pitch_text.specs.WellFormed.{IsWellFormed};
 ghost use Rattle.pitch_text.specs.declared.verb.ScheduleEntry.{ScheduleEntry as EntrySaid};
 ghost use Rattle.schedule_replay.specs.Replay.{replay_line};
-ghost use Rattle.schedule_replay.specs.Runs.{later, RunsLines, Ran, AreRun};
-ghost use Rattle.schedule_replay.specs.Stretches.{AreListed, Owned, StretchPart, items_at};
-ghost use Rattle.schedule_replay.specs.Stretches.{parts_of, unit_parts};
-ghost use Rattle.schedule_replay.specs.Places.{IsPlace};
+ghost use Rattle.schedule_replay.specs.layers.Runs.{later, RunsLines, Ran, AreRun};
+ghost use Rattle.schedule_replay.specs.layers.Stretches.{AreListed, Owned, StretchPart, items_at};
+ghost use Rattle.schedule_replay.specs.layers.Stretches.{parts_of, unit_parts};
+ghost use Rattle.schedule_replay.specs.layers.Places.{IsPlace};
 
 use crate::running::run_in;
 use crate::stretches::Stretch;

@@ -14,7 +14,7 @@ use Rattle.pitch_model.specs.History.{Raw}
 use Rattle.heard_items.specs.Datagrams.{IsPiece, IsVenueBlock}
 use Rattle.heard_items.proofs.Datagrams.{heartbeat_piece, packing_pieces, pieces_more, venues_after}
 use Rattle.session_ends.specs.Sending.{new_items}
-use Rattle.grp_session.specs.Feeding.{AreSequenced}
+use Rattle.grp_session.specs.layers.Feeding.{AreSequenced}
 use Rattle.grp_session.specs.Serving.{Source}
 use Rattle.grp_session.proofs.Replies.{proxy_pieces, views_same}
 use Rattle.spin_path.specs.PathLaws.{HasWholeImages}

@@ -25,7 +25,7 @@ use Rattle.spin_path.proofs.Flow.{ImageLeft, Goes, next, rests, rests_append, go
 use Rattle.spin_path.proofs.Links.{told_once, told_more, told_over, begins}
 use Rattle.spin_path.proofs.Serves.{holds}
 use Rattle.client_end.specs.Came.{Came, EndSetup, EndState, Heard, GrpMade, GrpTook, GrpCut, GrpLost, SpinMade, SpinTook, SpinCut, SpinLost, Second, of_spin, ask_sent, both_links_tick, client_asks, end_after, end_step}
-use Rattle.client_end.specs.Hearing.{IsGapTold}
+use Rattle.client_end.specs.layers.Hearing.{IsGapTold}
 use Rattle.client_end.specs.Links.{gap_link, spin_link}
 use Rattle.client_end.specs.Sessions.{SessionState, fed_at, happened, heard_cut, heard_in_part, link_happened, link_settled, settled_at}
 use Rattle.client_end.proofs.LinkItems.{gap_link_tells}

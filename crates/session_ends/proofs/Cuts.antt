@@ -9,7 +9,7 @@ use Rattle.session_ends.specs.Answering.{Answer, Answerer, no_answer, followed, 
 use Rattle.session_ends.specs.Closing.{Setup, cause_of, first_cause, or_else, logs_in, closed_of, logged_in}
 use Rattle.session_ends.specs.Events.{Event, Fed, fed_of}
 use Rattle.session_ends.specs.Items.{stream_items}
-use Rattle.session_ends.specs.Laws.{fed_answers, ClosesOnce, AnswersOnce}
+use Rattle.session_ends.specs.layers.Laws.{fed_answers, ClosesOnce, AnswersOnce}
 use Rattle.session_ends.specs.Sending.{new_items}
 use Rattle.session_ends.proofs.Ends.{or_assoc, cause_append, logged_on, closed_on, bool_assoc}
 use Rattle.session_ends.proofs.Inboxes.{items_stay}

@@ -12,10 +12,10 @@ use Rattle.session_ends.specs.declared.inbox.Heard.{Heard}
 use Rattle.session_ends.specs.declared.role.Role.{Role}
 use Rattle.session_ends.specs.Closing.{Setup, cause_of, first_cause, or_else, logs_in, closes_at, closed_of, logged_in}
 use Rattle.session_ends.specs.Ending.{Ending, Known, EndKnows, known_of}
-use Rattle.session_ends.specs.Ticking.{nothing_known, sending}
+use Rattle.session_ends.specs.layers.Ticking.{nothing_known, sending}
 use Rattle.session_ends.specs.Events.{Event, Fed, Ticked, Asked, Pumped, Told, fed_of, is_quiet}
 use Rattle.session_ends.specs.Inboxes.{Inboxed, HasTaken}
-use Rattle.session_ends.specs.Hearing.{TakesPiece}
+use Rattle.session_ends.specs.layers.Hearing.{TakesPiece}
 use Rattle.session_ends.specs.Items.{stream_items, stream_items_from, trouble}
 use Rattle.session_ends.specs.Sending.{some_bytes, sent_since, new_items}
 use Rattle.session_ends.proofs.Inboxes.{items_none}

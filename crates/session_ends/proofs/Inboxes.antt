@@ -16,7 +16,7 @@ use Rattle.unit_packets.proofs.Streams.{lasting_of, lasting_more, fault_stays}
 use Rattle.session_ends.specs.declared.inbox.Heard.{Heard}
 use Rattle.session_ends.specs.Items.{onward, block_size, block_items, stream_items_from, stream_items, trouble}
 use Rattle.session_ends.specs.Inboxes.{Inboxed, HasTaken}
-use Rattle.session_ends.specs.Hearing.{nothing_fed, TakesPiece}
+use Rattle.session_ends.specs.layers.Hearing.{nothing_fed, TakesPiece}
 
 -- ---- Places
 onward_on : (place a b : ℕ) → onward (onward place a) b ≡ onward place (a + b)

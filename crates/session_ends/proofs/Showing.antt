@@ -1,5 +1,5 @@
 -- Views that are shown one after another.
-use Rattle.session_ends.specs.Showing.{ShowsLater}
+use Rattle.session_ends.specs.layers.Showing.{ShowsLater}
 use Rattle.session_ends.proofs.Runs.{IsOrder}
 
 -- the same view

@@ -20,9 +20,10 @@ use Rattle.session_ends.specs.declared.inbox.Heard.{Heard}
 use Rattle.session_ends.specs.declared.inbox.Heard.TheVariants.{Broken}
 use Rattle.session_ends.specs.Closing.{first_cause, logs_in}
 use Rattle.session_ends.specs.Ending.{Ending}
-use Rattle.session_ends.specs.Hearing.{rest_items, reader_items, block_left, follows, IsCut, IsThrough}
+use Rattle.session_ends.specs.layers.Hearing.{rest_items, reader_items, block_left, follows, IsCut}
+use Rattle.session_ends.specs.layers.Hearing.{IsThrough}
 use Rattle.session_ends.specs.Inboxes.{Inboxed, HasTaken}
-use Rattle.session_ends.specs.Hearing.{TakesPiece}
+use Rattle.session_ends.specs.layers.Hearing.{TakesPiece}
 use Rattle.session_ends.specs.Items.{closed_at, messages_from, onward, block_size, block_items, stream_items_from, trouble}
 use Rattle.session_ends.specs.Sending.{some_bytes}
 use Rattle.session_ends.proofs.Ends.{Pieced, pieced}

@@ -12,8 +12,8 @@ ghost use Rattle.session_ends.specs.declared.closed.CloseCause.TheVariants.{Memo
 ghost use Rattle.session_ends.specs.Closing.{has_sub, is_theirs, login_status, cause_of};
 ghost use Rattle.session_ends.specs.Closing.{cause_of_said, logs_in, refused, too_early};
 ghost use Rattle.session_ends.specs.Ending.{EndKnows, Known};
-ghost use Rattle.session_ends.specs.Ticking.{known_ticked, tick_bytes};
-ghost use Rattle.session_ends.specs.Ticking.{nothing_known};
+ghost use Rattle.session_ends.specs.layers.Ticking.{known_ticked, tick_bytes};
+ghost use Rattle.session_ends.specs.layers.Ticking.{nothing_known};
 ghost use Rattle.session_ends.specs.Items.{closed_at};
 ghost use Rattle.session_ends.specs.Saying.{heard_by};
 ghost use Rattle.session_ends.specs.Sending.{header_unit, sent_bytes, heartbeat_bytes, some_bytes};

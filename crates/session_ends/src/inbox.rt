@@ -3,7 +3,7 @@
 ghost use Rattle.std.specs.Prelude.{◌≡◌, ◌+◌, ◌≤◌, length, IfOk, OnOk};
 ghost use Rattle.unit_packets.specs.Causes.{counted};
 ghost use Rattle.unit_packets.specs.Pieces.{unread, loaded, passed};
-ghost use Rattle.session_ends.specs.Hearing.{nothing_fed};
+ghost use Rattle.session_ends.specs.layers.Hearing.{nothing_fed};
 
 use crate::closed::Closed;
 use crate::lent::LentRaw;

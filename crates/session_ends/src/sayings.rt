@@ -6,7 +6,7 @@ ghost use Rattle.unit_packets.specs.Cutting.{fault_from};
 ghost use Rattle.unit_packets.specs.Judging.{judge};
 ghost use Rattle.unit_packets.specs.Held.{StandsFirst};
 ghost use Rattle.session_ends.specs.Items.{onward, trouble};
-ghost use Rattle.session_ends.specs.Hearing.{reader_items, says, IsThrough};
+ghost use Rattle.session_ends.specs.layers.Hearing.{reader_items, says, IsThrough};
 
 use crate::closed::{CloseCause, Closed};
 use crate::inbox::Heard;
@@ -55,7 +55,7 @@ pub struct Sayings<'a> {
 }
 
 impl<'a> Model for Sayings<'a> {
-    ghost use Rattle.session_ends.specs.Hearing.{Saying, IsCut};
+    ghost use Rattle.session_ends.specs.layers.Hearing.{Saying, IsCut};
 
     ghost Value = { Saying };
 

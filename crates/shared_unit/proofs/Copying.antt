@@ -12,8 +12,8 @@ use Rattle.pitch_model.specs.Image.{image}
 use Rattle.spin_server.specs.Served.{Served, is_served}
 use Rattle.spin_server.specs.declared.lookup.Imaged.TheVariants.{Image, NotAdvertised}
 use Rattle.shared_unit.specs.declared.published.Picture.{Picture}
-use Rattle.shared_unit.specs.Answers.{AnswersImage}
-use Rattle.shared_unit.specs.Stored.{IsPicture, raws_in, sequence_of}
+use Rattle.shared_unit.specs.layers.Answers.{AnswersImage}
+use Rattle.shared_unit.specs.layers.Stored.{IsPicture, raws_in, sequence_of}
 
 -- ---- Appending
 -- some of all the messages were appended, and the rest is left

@@ -4,8 +4,9 @@ use Rattle.std.proofs.lemmas.Bool.{false≢true}
 use mathlib.Core.List.{IsPrefix}
 use Rattle.logbook.specs.Pages.{Cell, cell, nib, may_write}
 use Rattle.pitch_model.specs.Advertising.{Operation, Accept}
-use Rattle.shared_unit.specs.Moments.{Moment, Opening, Doing, Publishing, Answering, history_in, rights_in, published_in, IsNewest}
-use Rattle.shared_unit.specs.Rules.{KeepsHistory, HasRight}
+use Rattle.shared_unit.specs.layers.Moments.{Moment, Opening, Doing, Publishing, Answering}
+use Rattle.shared_unit.specs.layers.Moments.{history_in, rights_in, published_in, IsNewest}
+use Rattle.shared_unit.specs.layers.Rules.{KeepsHistory, HasRight}
 
 -- a writer is given its first right, the pen of cell 2; a message is accepted, for the pen of cell 3, and published; and then a server begins an answer
 abbrev message : Operation

@@ -18,8 +18,11 @@ use Rattle.shared_unit.specs.declared.published.Picture.{Picture}
 use Rattle.shared_unit.specs.declared.published.Shelves.{Shelves}
 use Rattle.shared_unit.specs.declared.published.What.{What}
 use Rattle.shared_unit.specs.declared.published.What.TheVariants as what
-use Rattle.shared_unit.specs.Histories.{kept_at, then_done}
-use Rattle.shared_unit.specs.Stored.{IsPicture, SamePicture, EndsWith, ComesAfter, EndsOrIsNothing, HasRoomFor, StandFor, IsTakenIn, grown_by, operation_of, sequence_of, served_with, raws_in}
+use Rattle.shared_unit.specs.layers.Histories.{kept_at, then_done}
+use Rattle.shared_unit.specs.layers.Stored.{IsPicture, SamePicture, EndsWith, ComesAfter}
+use Rattle.shared_unit.specs.layers.Stored.{EndsOrIsNothing, HasRoomFor, StandFor, IsTakenIn}
+use Rattle.shared_unit.specs.layers.Stored.{grown_by, operation_of, sequence_of, served_with}
+use Rattle.shared_unit.specs.layers.Stored.{raws_in}
 use Rattle.shared_unit.proofs.Fronts.{prefix_shorter, prefix_whole, prefix_length}
 
 -- ---- The last of a list

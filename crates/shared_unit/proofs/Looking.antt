@@ -6,16 +6,18 @@ use Rattle.std.specs.List.{list_any}
 use Rattle.std.specs.Set.{is_member}
 use mathlib.Core.List.{IsPrefix}
 use Rattle.gap_store.specs.Look.{View, look}
-use Rattle.gap_store.specs.Looking.{IsLater, LooksAt, FindsAt, PacksAt, AnswersLook, AnswersPack}
+use Rattle.gap_store.specs.layers.Looking.{IsLater, LooksAt, FindsAt, PacksAt, AnswersLook}
+use Rattle.gap_store.specs.layers.Looking.{AnswersPack}
 use Rattle.gap_store.specs.declared.found.Found.{Found}
 use Rattle.pitch_model.specs.Advertising.{Operation, Accept, Advertise, accepted_at, accepted_by, advertised_by, with_sequence, last_ten, newest_of}
 use Rattle.pitch_model.proofs.Advertising.{advertised_accept, advertised_advertise}
 use Rattle.spin_server.specs.Served.{Served}
 use Rattle.spin_server.specs.Looking.{ServedLater, SeesNewest, SeesServed, LooksUpImage}
 use Rattle.spin_server.specs.declared.lookup.Imaged.{Imaged}
-use Rattle.shared_unit.specs.Answers.{AnswersImage}
-use Rattle.shared_unit.specs.Histories.{kept_at, served_at, then_done}
-use Rattle.shared_unit.specs.Moments.{Moment, Answering, Sight, HappensAfter, IsNewest, AreNumbered, history_in}
+use Rattle.shared_unit.specs.layers.Answers.{AnswersImage}
+use Rattle.shared_unit.specs.layers.Histories.{kept_at, served_at, then_done}
+use Rattle.shared_unit.specs.layers.Moments.{Moment, Answering, Sight, HappensAfter, IsNewest}
+use Rattle.shared_unit.specs.layers.Moments.{AreNumbered, history_in}
 
 -- ---- What is seen later
 accepted_later : (h r o : List Operation) → h ++ r ≡ o → accepted_by o ≡ accepted_by h ++ accepted_by r

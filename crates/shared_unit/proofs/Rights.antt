@@ -4,9 +4,9 @@ use Rattle.std.proofs.Math.Seq.{get_or-append_seam}
 use mathlib.Core.List.{IsPrefix}
 use Rattle.logbook.specs.Pages.{Nib, may_write, may_make, inked, left_with}
 use Rattle.pitch_model.specs.Advertising.{Operation, accepted_by}
-use Rattle.shared_unit.specs.Histories.{IsLegal, then_done}
-use Rattle.shared_unit.specs.Moments.{Moment, Doing, history_in, rights_in}
-use Rattle.shared_unit.specs.Rules.{HasRight, MayAdd}
+use Rattle.shared_unit.specs.layers.Histories.{IsLegal, then_done}
+use Rattle.shared_unit.specs.layers.Moments.{Moment, Doing, history_in, rights_in}
+use Rattle.shared_unit.specs.layers.Rules.{HasRight, MayAdd}
 use Rattle.shared_unit.proofs.Fronts.{prefix_trans}
 use Rattle.shared_unit.proofs.Steps.{history_prefix}
 

@@ -8,9 +8,12 @@ use mathlib.Core.List.{IsPrefix}
 use prog.Atomic.{either}
 use Rattle.logbook.specs.Pages.{Cell, cell, keeps, gives, adds, Nib, no_nib, step, Away, Moves, Goes, cells_after}
 use Rattle.pitch_model.specs.Advertising.{Operation}
-use Rattle.shared_unit.specs.Histories.{IsLegal, then_done}
-use Rattle.shared_unit.specs.Moments.{Moment, Opening, Doing, Publishing, Answering, done_at, history_in, right_at, rights_in, published_at, published_in}
-use Rattle.shared_unit.specs.Rules.{KeepsHistory, HasRight, GivesFirst, MakesCell, AddsOperation, SeesWhole, PublishesNext, BeginsAnswer}
+use Rattle.shared_unit.specs.layers.Histories.{IsLegal, then_done}
+use Rattle.shared_unit.specs.layers.Moments.{Moment, Opening, Doing, Publishing, Answering, done_at}
+use Rattle.shared_unit.specs.layers.Moments.{history_in, right_at, rights_in, published_at}
+use Rattle.shared_unit.specs.layers.Moments.{published_in}
+use Rattle.shared_unit.specs.layers.Rules.{KeepsHistory, HasRight, GivesFirst, MakesCell}
+use Rattle.shared_unit.specs.layers.Rules.{AddsOperation, SeesWhole, PublishesNext, BeginsAnswer}
 use Rattle.shared_unit.proofs.Fronts.{prefix_length, prefix_trans}
 
 -- ---- One moment more

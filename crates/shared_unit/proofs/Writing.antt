@@ -13,8 +13,8 @@ use Rattle.venue_core.specs.declared.error.VenueError.{VenueError}
 use Rattle.venue_core.specs.declared.error.VenueError.TheVariants.{OutOfMemory}
 use Rattle.venue_core.specs.Refusals.{IsAnswer}
 use Rattle.shared_unit.specs.declared.published.Picture.{Picture}
-use Rattle.shared_unit.specs.Histories.{IsLegal, then_done}
-use Rattle.shared_unit.specs.Stored.{IsPicture, HasSequences, raws_in}
+use Rattle.shared_unit.specs.layers.Histories.{IsLegal, then_done}
+use Rattle.shared_unit.specs.layers.Stored.{IsPicture, HasSequences, raws_in}
 
 -- ---- Answers
 pub answer_memory : {A : Type 0} (refusal : Option VenueError) (x : A) → refusal ≡ None → IsAnswer refusal x (Err OutOfMemory)

@@ -5,10 +5,11 @@ ghost use Rattle.std.specs.Prelude.{MatchBool, IfOk, IfSome};
 ghost use mathlib.Core.List.{IsPrefix};
 ghost use Rattle.logbook.specs.Pages.{may_write};
 ghost use Rattle.pitch_fields.specs.Limits.{most_held};
-ghost use Rattle.shared_unit.specs.Histories.{IsLegal, then_done};
-ghost use Rattle.shared_unit.specs.Moments.{Answering, HappensAfter, history_in, published_in};
-ghost use Rattle.shared_unit.specs.Rules.{rights_word, published_word};
-ghost use Rattle.shared_unit.specs.Stored.{AreBlank, operation_of};
+ghost use Rattle.shared_unit.specs.layers.Histories.{IsLegal, then_done};
+ghost use Rattle.shared_unit.specs.layers.Moments.{Answering, HappensAfter, history_in};
+ghost use Rattle.shared_unit.specs.layers.Moments.{published_in};
+ghost use Rattle.shared_unit.specs.layers.Rules.{rights_word, published_word};
+ghost use Rattle.shared_unit.specs.layers.Stored.{AreBlank, operation_of};
 
 use crate::published::{Shelves, What};
 use crate::run::{FixedRun, Naming};
@@ -27,8 +28,8 @@ pub struct Entry {
 }
 
 impl Model for Entry {
-    ghost use Rattle.shared_unit.specs.Coding.{moment_code, moment_from};
-    ghost use Rattle.shared_unit.specs.Moments.{Moment};
+    ghost use Rattle.shared_unit.specs.layers.Coding.{moment_code, moment_from};
+    ghost use Rattle.shared_unit.specs.layers.Moments.{Moment};
 
     ghost Value = { Moment };
 
@@ -47,7 +48,7 @@ pub struct Law<R: FixedRun> {
 impl<R: FixedRun> Rule<Entry, u64> for Law<R> {
     ghost use Rattle.std.specs.Prelude.{[]};
     ghost use base.Fml.{ftrue};
-    ghost use Rattle.shared_unit.specs.Rules.{KeepsHistory};
+    ghost use Rattle.shared_unit.specs.layers.Rules.{KeepsHistory};
 
     ghost holds = { λ cells log. KeepsHistory R.fixed R.plan cells log };
 
@@ -75,7 +76,7 @@ impl Gain<Entry, u64> for Nothing {
 pub(crate) struct First;
 
 impl Play<Entry, u64> for First {
-    ghost use Rattle.shared_unit.specs.Rules.{GivesFirst};
+    ghost use Rattle.shared_unit.specs.layers.Rules.{GivesFirst};
 
     ghost then = { GivesFirst };
 }
@@ -84,7 +85,7 @@ impl Play<Entry, u64> for First {
 pub(crate) struct More;
 
 impl Play<Entry, u64> for More {
-    ghost use Rattle.shared_unit.specs.Rules.{MakesCell};
+    ghost use Rattle.shared_unit.specs.layers.Rules.{MakesCell};
 
     ghost then = { MakesCell };
 }
@@ -93,7 +94,7 @@ impl Play<Entry, u64> for More {
 pub(crate) struct Look;
 
 impl Play<Entry, u64> for Look {
-    ghost use Rattle.shared_unit.specs.Rules.{SeesWhole};
+    ghost use Rattle.shared_unit.specs.layers.Rules.{SeesWhole};
 
     ghost then = { SeesWhole };
 }
@@ -111,7 +112,7 @@ pub(crate) struct Add<R: FixedRun> {
 }
 
 impl<R: FixedRun> Play<Entry, u64> for Add<R> {
-    ghost use Rattle.shared_unit.specs.Rules.{AddsOperation};
+    ghost use Rattle.shared_unit.specs.layers.Rules.{AddsOperation};
 
     ghost then = { AddsOperation R.fixed R.plan };
 }
@@ -119,8 +120,8 @@ impl<R: FixedRun> Play<Entry, u64> for Add<R> {
 // It asks for the operation that is to be published.
 impl<R: FixedRun> Plain<Next, Entry, u64> for Add<R> {
     ghost use Rattle.std.specs.Prelude.{None};
-    ghost use Rattle.shared_unit.specs.Moments.{Doing};
-    ghost use Rattle.shared_unit.specs.Stored.{operation_of};
+    ghost use Rattle.shared_unit.specs.layers.Moments.{Doing};
+    ghost use Rattle.shared_unit.specs.layers.Stored.{operation_of};
 
     ghost ask = { λ next. Doing (operation_of next.what) next.pen.nib.key };
 
@@ -131,14 +132,14 @@ impl<R: FixedRun> Plain<Next, Entry, u64> for Add<R> {
 pub(crate) struct Publish;
 
 impl Play<Entry, u64> for Publish {
-    ghost use Rattle.shared_unit.specs.Rules.{PublishesNext};
+    ghost use Rattle.shared_unit.specs.layers.Rules.{PublishesNext};
 
     ghost then = { PublishesNext };
 }
 
 impl Plain<u64, Entry, u64> for Publish {
     ghost use Rattle.std.specs.Prelude.{None};
-    ghost use Rattle.shared_unit.specs.Moments.{Publishing};
+    ghost use Rattle.shared_unit.specs.layers.Moments.{Publishing};
 
     ghost ask = { λ number. Publishing };
 
@@ -149,7 +150,7 @@ impl Plain<u64, Entry, u64> for Publish {
 pub(crate) struct Begin;
 
 impl Play<Entry, u64> for Begin {
-    ghost use Rattle.shared_unit.specs.Rules.{BeginsAnswer};
+    ghost use Rattle.shared_unit.specs.layers.Rules.{BeginsAnswer};
 
     ghost then = { BeginsAnswer };
 }
@@ -157,7 +158,7 @@ impl Play<Entry, u64> for Begin {
 // It asks for the answer of the server with this number.
 impl Plain<u64, Entry, u64> for Begin {
     ghost use Rattle.std.specs.Prelude.{None};
-    ghost use Rattle.shared_unit.specs.Moments.{Answering};
+    ghost use Rattle.shared_unit.specs.layers.Moments.{Answering};
 
     ghost ask = { λ server. Answering server };
 
@@ -285,9 +286,9 @@ pub(crate) struct Front<J: Naming, R: FixedRun> {
 impl<J: Naming, R: FixedRun> Model for Front<J, R> {
     ghost use Rattle.std.specs.Prelude.{◌≡◌, List, length};
     ghost use Rattle.pitch_model.specs.Advertising.{Operation};
-    ghost use Rattle.shared_unit.specs.Coding.{history_code};
-    ghost use Rattle.shared_unit.specs.Histories.{IsLegal};
-    ghost use Rattle.shared_unit.specs.Moments.{history_in};
+    ghost use Rattle.shared_unit.specs.layers.Coding.{history_code};
+    ghost use Rattle.shared_unit.specs.layers.Histories.{IsLegal};
+    ghost use Rattle.shared_unit.specs.layers.Moments.{history_in};
 
     ghost Value = { List Operation };
 
@@ -362,9 +363,9 @@ pub(crate) struct Right<J: Naming, R: FixedRun> {
 impl<J: Naming, R: FixedRun> Model for Right<J, R> {
     ghost use Rattle.std.specs.Prelude.{◌≡◌, List, length};
     ghost use Rattle.pitch_model.specs.Advertising.{Operation};
-    ghost use Rattle.shared_unit.specs.Coding.{history_code};
-    ghost use Rattle.shared_unit.specs.Moments.{history_in};
-    ghost use Rattle.shared_unit.specs.Rules.{MayAdd};
+    ghost use Rattle.shared_unit.specs.layers.Coding.{history_code};
+    ghost use Rattle.shared_unit.specs.layers.Moments.{history_in};
+    ghost use Rattle.shared_unit.specs.layers.Rules.{MayAdd};
 
     ghost Value = { List Operation };
 
@@ -460,8 +461,8 @@ pub(crate) struct Eye<J: Naming, R: FixedRun> {
 
 impl<J: Naming, R: FixedRun> Model for Eye<J, R> {
     ghost use Rattle.std.specs.Prelude.{◌≡◌, List};
-    ghost use Rattle.shared_unit.specs.Coding.{moments_code};
-    ghost use Rattle.shared_unit.specs.Moments.{Moment};
+    ghost use Rattle.shared_unit.specs.layers.Coding.{moments_code};
+    ghost use Rattle.shared_unit.specs.layers.Moments.{Moment};
 
     ghost Value = { List Moment };
 

@@ -1,9 +1,9 @@
 //! The end that publishes.
 ghost use Rattle.std.specs.Prelude.{◌≡◌, ◌<◌, ◌^◌, [], false, length, IfOk, OnOk, MatchResult};
 ghost use mathlib.Core.List.{IsPrefix};
-ghost use Rattle.shared_unit.specs.Histories.{IsLegal, then_done};
-ghost use Rattle.shared_unit.specs.Moments.{IsNew, IsPublished, cut};
-ghost use Rattle.shared_unit.specs.Stored.{AreBlank, ComesAfter, HasSequences, operation_of};
+ghost use Rattle.shared_unit.specs.layers.Histories.{IsLegal, then_done};
+ghost use Rattle.shared_unit.specs.layers.Moments.{IsNew, IsPublished, cut};
+ghost use Rattle.shared_unit.specs.layers.Stored.{AreBlank, ComesAfter, HasSequences, operation_of};
 
 use crate::book::{Book, Eye, Opened, Right};
 use crate::holder::Holder;
@@ -37,8 +37,8 @@ pub(crate) struct Desk<J: Naming, R: FixedRun, W: Wait + Drop> {
 
 impl<J: Naming, R: FixedRun, W: Wait + Drop> Model for Desk<J, R, W> {
     ghost use Rattle.std.specs.Prelude.{◌≡◌, ◌≤◌, [], false, length};
-    ghost use Rattle.shared_unit.specs.Coding.{writing_code};
-    ghost use Rattle.shared_unit.specs.Moments.{Writing, published_in};
+    ghost use Rattle.shared_unit.specs.layers.Coding.{writing_code};
+    ghost use Rattle.shared_unit.specs.layers.Moments.{Writing, published_in};
 
     ghost Value = { Writing };
 

@@ -3,11 +3,11 @@ ghost use Rattle.std.specs.Prelude.{◌≡◌, ◌+◌, ◌≤◌, false, length
 ghost use Rattle.pitch_fields.specs.Limits.{last_sequence};
 ghost use Rattle.unit_packets.specs.Packing.{bytes_in};
 ghost use Rattle.gap_store.specs.Look.{View};
-ghost use Rattle.gap_store.specs.Looking.{FindsAt, LooksAt, PacksAt};
+ghost use Rattle.gap_store.specs.layers.Looking.{FindsAt, LooksAt, PacksAt};
 ghost use Rattle.spin_server.specs.Served.{Served};
 ghost use Rattle.spin_server.specs.Looking.{LooksUpImage, SeesNewest, SeesServed};
-ghost use Rattle.shared_unit.specs.Histories.{kept_at, served_at};
-ghost use Rattle.shared_unit.specs.Moments.{AnswersNewest};
+ghost use Rattle.shared_unit.specs.layers.Histories.{kept_at, served_at};
+ghost use Rattle.shared_unit.specs.layers.Moments.{AnswersNewest};
 
 use crate::run::{FixedRun, Naming};
 use crate::server::Server;

@@ -3,8 +3,8 @@ ghost use Rattle.std.specs.Prelude.{◌≡◌, ◌==◌, ◌<◌, ◌⊎◌, [],
 ghost use mathlib.Core.List.{IsPrefix};
 ghost use Rattle.std.specs.List.{list_any};
 ghost use Rattle.pitch_model.specs.Advertising.{advertised_by, last_ten, newest_of};
-ghost use Rattle.shared_unit.specs.Histories.{IsLegal, then_done};
-ghost use Rattle.shared_unit.specs.Stored.{ComesAfter, operation_of, served_with};
+ghost use Rattle.shared_unit.specs.layers.Histories.{IsLegal, then_done};
+ghost use Rattle.shared_unit.specs.layers.Stored.{ComesAfter, operation_of, served_with};
 
 use crate::book::Front;
 use crate::published::What;
@@ -23,7 +23,7 @@ pub(crate) struct Past<J: Naming, R: FixedRun> {
 impl<J: Naming, R: FixedRun> Model for Past<J, R> {
     ghost use Rattle.std.specs.Prelude.{◌≡◌, List};
     ghost use Rattle.pitch_model.specs.Advertising.{Operation, advertised_by, last_ten};
-    ghost use Rattle.shared_unit.specs.Coding.{history_code};
+    ghost use Rattle.shared_unit.specs.layers.Coding.{history_code};
 
     ghost Value = { List Operation };
 

@@ -2,7 +2,7 @@
 ghost use Rattle.std.specs.Prelude.{◌≡◌, ◌≤◌, ℕ, [], false, IfOk, IfErr, OnOk, length};
 ghost use Rattle.std.specs.List.{AllByRecursion};
 ghost use Rattle.pitch_io.specs.Causes.{Rose};
-ghost use Rattle.shared_unit.specs.Moments.{IsNew, AreNumbered};
+ghost use Rattle.shared_unit.specs.layers.Moments.{IsNew, AreNumbered};
 ghost use Rattle.shared_unit.specs.declared.places.MakeError.TheVariants.{NoPlace};
 
 use crate::book::Opened;

@@ -1,7 +1,7 @@
 //! What is published, and what a copy keeps of it.
 ghost use Rattle.std.specs.Prelude.{◌≡◌, ◌+◌, ◌<◌, ◌≤◌, IfOk};
 ghost use Rattle.pitch_fields.specs.Limits.{last_sequence, most_held};
-ghost use Rattle.shared_unit.specs.Stored.{AreBlank, HasRoomFor, SamePicture, IsTakenIn};
+ghost use Rattle.shared_unit.specs.layers.Stored.{AreBlank, HasRoomFor, SamePicture, IsTakenIn};
 
 use circular_buffer::HeapCircularBuffer;
 use gap_store::GapStore;

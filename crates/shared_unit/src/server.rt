@@ -6,11 +6,11 @@ ghost use Rattle.pitch_fields.specs.Limits.{last_sequence};
 ghost use Rattle.pitch_model.specs.Advertising.{advertised_by, last_ten, newest_of};
 ghost use Rattle.unit_packets.specs.Packing.{bytes_in};
 ghost use Rattle.gap_store.specs.Look.{look};
-ghost use Rattle.gap_store.specs.Looking.{AnswersLook, AnswersPack};
-ghost use Rattle.shared_unit.specs.Answers.{AnswersImage};
-ghost use Rattle.shared_unit.specs.Histories.{IsLegal, kept_at, served_at};
-ghost use Rattle.shared_unit.specs.Moments.{Answering, AnswersNewest, HappensAfter, IsNew};
-ghost use Rattle.shared_unit.specs.Moments.{IsNewest};
+ghost use Rattle.gap_store.specs.layers.Looking.{AnswersLook, AnswersPack};
+ghost use Rattle.shared_unit.specs.layers.Answers.{AnswersImage};
+ghost use Rattle.shared_unit.specs.layers.Histories.{IsLegal, kept_at, served_at};
+ghost use Rattle.shared_unit.specs.layers.Moments.{Answering, AnswersNewest, HappensAfter, IsNew};
+ghost use Rattle.shared_unit.specs.layers.Moments.{IsNewest};
 
 use crate::book::{Book, Eye};
 use crate::past::Past;
@@ -42,8 +42,8 @@ pub struct Server<J: Naming, R: FixedRun> {
 }
 
 impl<J: Naming, R: FixedRun> Model for Server<J, R> {
-    ghost use Rattle.shared_unit.specs.Coding.{sight_code};
-    ghost use Rattle.shared_unit.specs.Moments.{Sight};
+    ghost use Rattle.shared_unit.specs.layers.Coding.{sight_code};
+    ghost use Rattle.shared_unit.specs.layers.Moments.{Sight};
 
     ghost Value = { Sight };
 

@@ -5,10 +5,10 @@ ghost use Rattle.std.specs.List.{list_any};
 ghost use Rattle.pitch_fields.specs.Limits.{last_sequence};
 ghost use Rattle.unit_packets.specs.Packing.{bytes_in};
 ghost use Rattle.gap_store.specs.Look.{look};
-ghost use Rattle.gap_store.specs.Looking.{AnswersLook, AnswersPack};
-ghost use Rattle.shared_unit.specs.Answers.{AnswersImage};
-ghost use Rattle.shared_unit.specs.Histories.{kept_at, served_at};
-ghost use Rattle.shared_unit.specs.Stored.{AreBlank, EndsWith, sequence_of};
+ghost use Rattle.gap_store.specs.layers.Looking.{AnswersLook, AnswersPack};
+ghost use Rattle.shared_unit.specs.layers.Answers.{AnswersImage};
+ghost use Rattle.shared_unit.specs.layers.Histories.{kept_at, served_at};
+ghost use Rattle.shared_unit.specs.layers.Stored.{AreBlank, EndsWith, sequence_of};
 
 use crate::past::Past;
 use crate::published::{Picture, Shelves, What};
@@ -33,8 +33,8 @@ pub struct Store<J: Naming, R: FixedRun> {
 impl<J: Naming, R: FixedRun> Model for Store<J, R> {
     ghost use Rattle.std.specs.Prelude.{List};
     ghost use Rattle.pitch_model.specs.Advertising.{Operation};
-    ghost use Rattle.shared_unit.specs.Coding.{history_code};
-    ghost use Rattle.shared_unit.specs.Stored.{StandFor};
+    ghost use Rattle.shared_unit.specs.layers.Coding.{history_code};
+    ghost use Rattle.shared_unit.specs.layers.Stored.{StandFor};
 
     ghost Value = { List Operation };
 
@@ -56,8 +56,8 @@ pub struct Published<J: Naming, R: FixedRun> {
 impl<J: Naming, R: FixedRun> Model for Published<J, R> {
     ghost use Rattle.std.specs.Prelude.{List};
     ghost use Rattle.pitch_model.specs.Advertising.{Operation};
-    ghost use Rattle.shared_unit.specs.Coding.{history_code};
-    ghost use Rattle.shared_unit.specs.Stored.{EndsOrIsNothing};
+    ghost use Rattle.shared_unit.specs.layers.Coding.{history_code};
+    ghost use Rattle.shared_unit.specs.layers.Stored.{EndsOrIsNothing};
 
     ghost Value = { List Operation };
 
@@ -213,7 +213,7 @@ impl<J: Naming, R: FixedRun> Store<J, R> {
 }
 
 impl<J: Naming, R: FixedRun> Absorb<Published<J, R>> for Store<J, R> {
-    ghost use Rattle.shared_unit.specs.Stored.{grown_by};
+    ghost use Rattle.shared_unit.specs.layers.Stored.{grown_by};
 
     type State = Store<J, R>;
 

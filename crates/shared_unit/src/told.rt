@@ -15,8 +15,8 @@ pub struct Told<J: Naming, R: FixedRun> {
 }
 
 impl<J: Naming, R: FixedRun> Model for Told<J, R> {
-    ghost use Rattle.shared_unit.specs.Coding.{account_code};
-    ghost use Rattle.shared_unit.specs.Moments.{Account};
+    ghost use Rattle.shared_unit.specs.layers.Coding.{account_code};
+    ghost use Rattle.shared_unit.specs.layers.Moments.{Account};
 
     ghost Value = { Account };
 

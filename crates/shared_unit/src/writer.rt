@@ -10,9 +10,9 @@ ghost use Rattle.venue_core.specs.declared.error.VenueError.TheVariants as error
 ghost use Rattle.pitch_model.specs.History.{adds};
 ghost use Rattle.pitch_model.specs.Image.{image_of};
 ghost use Rattle.venue_core.specs.Stands.{last_of};
-ghost use Rattle.shared_unit.specs.Histories.{IsLegal, then_done};
-ghost use Rattle.shared_unit.specs.Moments.{IsNew, IsPublished, cut};
-ghost use Rattle.shared_unit.specs.Stored.{ComesAfter, operation_of, raws_in};
+ghost use Rattle.shared_unit.specs.layers.Histories.{IsLegal, then_done};
+ghost use Rattle.shared_unit.specs.layers.Moments.{IsNew, IsPublished, cut};
+ghost use Rattle.shared_unit.specs.layers.Stored.{ComesAfter, operation_of, raws_in};
 
 use crate::desk::Desk;
 use crate::published::{Picture, What};
@@ -44,8 +44,8 @@ pub struct Writer<J: Naming, R: FixedRun, W: Wait + Drop> {
 impl<J: Naming, R: FixedRun, W: Wait + Drop> Model for Writer<J, R, W> {
     ghost use Rattle.pitch_model.specs.Advertising.{accepted_by};
     ghost use Rattle.venue_core.specs.Stands.{Stands};
-    ghost use Rattle.shared_unit.specs.Coding.{writing_code};
-    ghost use Rattle.shared_unit.specs.Moments.{Writing};
+    ghost use Rattle.shared_unit.specs.layers.Coding.{writing_code};
+    ghost use Rattle.shared_unit.specs.layers.Moments.{Writing};
 
     ghost Value = { Writing };
 

@@ -13,7 +13,7 @@ use Rattle.session_ends.proofs.Runs.{rises_to, rises_nowhere}
 use Rattle.spin_server.specs.Served.{Served}
 use Rattle.spin_server.specs.Looking.{ServedLater}
 use Rattle.spin_server.specs.Serving.{Serving, SpinStands, runs, spin_sends}
-use Rattle.spin_server.specs.Feeding.{SpinFeeds}
+use Rattle.spin_server.specs.layers.Feeding.{SpinFeeds}
 use Rattle.spin_server.specs.Shelves.{Shelf}
 use Rattle.spin_server.specs.Stands.{ShelfStands}
 use Rattle.spin_server.specs.ShelfViews.{ShelfShows, seen_of}

@@ -12,7 +12,7 @@ use Rattle.session_ends.specs.Answering.{Answer, no_answer, answers}
 use Rattle.session_ends.specs.Hearings.{Hears, HearsAll}
 use Rattle.session_ends.specs.Closing.{Setup, or_else, closed_of, closes_at, logged_in}
 use Rattle.session_ends.specs.Ending.{Ending, EndKnows, known_of}
-use Rattle.session_ends.specs.Ticking.{nothing_known, known_ticked, sending}
+use Rattle.session_ends.specs.layers.Ticking.{nothing_known, known_ticked, sending}
 use Rattle.session_ends.specs.Events.{Event, Fed, Ticked, Pumped, Told}
 use Rattle.session_ends.specs.Sending.{sent_bytes, some_bytes, new_items}
 use Rattle.session_ends.proofs.Ends.{Takes, Pieced, fed_end, shut_end, sent_end, known_none, or_parts}
@@ -24,7 +24,7 @@ use Rattle.spin_server.specs.Serving.{Spin, Serving, available_bytes, spin_login
 use Rattle.spin_server.specs.Serving.{spin_fed_answer, running_spin, spin_sends, spin_answer}
 use Rattle.spin_server.specs.Serving.{spin_said_answer, spin_message_answer, spin_request_answer}
 use Rattle.spin_server.specs.Serving.{pumped, pump_bytes, tell_bytes, runs}
-use Rattle.spin_server.specs.Feeding.{SpinFeeds}
+use Rattle.spin_server.specs.layers.Feeding.{SpinFeeds}
 use Rattle.spin_server.proofs.Shelving.{later_same}
 
 later_then : (a b c : Served) → ServedLater a b → ServedLater b c → ServedLater a c

@@ -18,7 +18,7 @@ use Rattle.pitch_model.specs.Book.{Book, after, book_after, empty_book}
 use Rattle.spin_server.specs.Served.{Served, is_served}
 use Rattle.spin_server.specs.Looking.{ServedLater, LooksUpImage, SeesNewest, SeesServed}
 use Rattle.spin_server.specs.Shelves.{Shelf, ShelfKeeps, base_at}
-use Rattle.spin_server.specs.ShelfCode.{IsShelf, Climbs, is_number}
+use Rattle.spin_server.specs.layers.ShelfCode.{IsShelf, Climbs, is_number}
 use Rattle.spin_server.specs.Stands.{ShelfStands}
 use Rattle.spin_server.specs.ShelfViews.{ShelfShows, OneServed, seen_of}
 

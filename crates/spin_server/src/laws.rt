@@ -3,10 +3,10 @@
 ghost use Rattle.std.specs.Prelude.{◌≡◌, ℕ, ◌==◌, List, [], None};
 ghost use Rattle.std.specs.List.{list_any};
 ghost use Rattle.pitch_model.specs.Advertising.{Operation, advertised_by, last_ten, newest_of};
-ghost use Rattle.session_ends.specs.Laws.{ClosesOnce, RisesNowhere};
+ghost use Rattle.session_ends.specs.layers.Laws.{ClosesOnce, RisesNowhere};
 ghost use Rattle.spin_server.specs.Served.{Served, is_served};
 ghost use Rattle.spin_server.specs.Looking.{ServedLater};
-ghost use Rattle.spin_server.specs.Feeding.{SpinAnswersOnce};
+ghost use Rattle.spin_server.specs.layers.Feeding.{SpinAnswersOnce};
 ghost use Rattle.spin_server.specs.Shelves.{Shelf};
 ghost use Rattle.spin_server.specs.Stands.{ShelfStands};
 ghost use Rattle.spin_server.specs.ShelfViews.{ShelfShows, OneServed, ShelfHasOneView};

@@ -11,11 +11,11 @@ ghost use Rattle.session_ends.specs.Hearings.{Hears, HearsAll};
 ghost use Rattle.session_ends.specs.Closing.{cause_of, closed_of, first_cause, logs_in};
 ghost use Rattle.session_ends.specs.Closing.{login_status};
 ghost use Rattle.session_ends.specs.Events.{Event, Ticked, Pumped, Told};
-ghost use Rattle.session_ends.specs.Happening.{Happens, OfEvents};
-ghost use Rattle.session_ends.specs.Hearing.{reader_items, IsThrough};
+ghost use Rattle.session_ends.specs.layers.Happening.{Happens, OfEvents};
+ghost use Rattle.session_ends.specs.layers.Hearing.{reader_items, IsThrough};
 ghost use Rattle.session_ends.specs.Items.{closed_at};
 ghost use Rattle.session_ends.specs.Sending.{sent_bytes, sent_at_tick};
-ghost use Rattle.session_ends.specs.Showing.{ShowsLater};
+ghost use Rattle.session_ends.specs.layers.Showing.{ShowsLater};
 ghost use Rattle.spin_server.specs.Served.{Served};
 ghost use Rattle.spin_server.specs.Looking.{ServedLater};
 ghost use Rattle.unit_packets.specs.Causes.{counted};
@@ -23,7 +23,7 @@ ghost use Rattle.spin_server.specs.Serving.{pump_bytes, pumped, blocks_left, ava
 ghost use Rattle.spin_server.specs.Serving.{spin_login_answer, spin_request_answer};
 ghost use Rattle.spin_server.specs.Serving.{spin_message_answer, spin_said_answer, spin_answer};
 ghost use Rattle.spin_server.specs.Serving.{spin_sends, runs, SpinStands};
-ghost use Rattle.spin_server.specs.Feeding.{SpinFeeds};
+ghost use Rattle.spin_server.specs.layers.Feeding.{SpinFeeds};
 
 use crate::lookup::{ImageLookup, Imaged};
 use crate::spin::Spin;

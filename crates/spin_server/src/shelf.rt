@@ -10,7 +10,7 @@ ghost use Rattle.pitch_model.specs.Book.{after, book_after};
 ghost use Rattle.pitch_model.specs.Advertising.{Operation, Accept, Advertise, accepted_by};
 ghost use Rattle.pitch_model.specs.Advertising.{newest_of};
 ghost use Rattle.spin_server.specs.Shelves.{ShelfKeeps, base_at};
-ghost use Rattle.spin_server.specs.ShelfCode.{is_number};
+ghost use Rattle.spin_server.specs.layers.ShelfCode.{is_number};
 ghost use Rattle.spin_server.specs.Stands.{ShelfStands};
 ghost use Rattle.spin_server.specs.ShelfViews.{retained};
 
@@ -38,7 +38,7 @@ pub struct ImageShelf {
 
 impl Model for ImageShelf {
     ghost use Rattle.spin_server.specs.Shelves.{Shelf};
-    ghost use Rattle.spin_server.specs.ShelfCode.{shelf_code, IsShelf};
+    ghost use Rattle.spin_server.specs.layers.ShelfCode.{shelf_code, IsShelf};
 
     ghost Value = { Shelf };
 

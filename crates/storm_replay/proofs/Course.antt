@@ -10,7 +10,8 @@ use Rattle.std.proofs.lemmas.Option.{slice_get_within, get_or_from_slice_get}
 use Rattle.pitch_messages.specs.Room.{Roomy}
 use Rattle.pitch_text.specs.declared.verb.Verb.{Verb}
 use Rattle.storm_replay.specs.Storm.{step_verbs}
-use Rattle.storm_replay.specs.Units.{unit_steps, counting, IsUnitDone, AreUnitsDone, gathered, AreWhole, AreGathered}
+use Rattle.storm_replay.specs.layers.Units.{unit_steps, counting, IsUnitDone, AreUnitsDone}
+use Rattle.storm_replay.specs.layers.Units.{gathered, AreWhole, AreGathered}
 use Rattle.world_model.specs.declared.world.World.{World}
 
 -- ---- Verbs, newest first

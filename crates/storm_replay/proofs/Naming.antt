@@ -12,7 +12,7 @@ use Rattle.schedule_replay.specs.Replay.{verbs_of, default_limits, limits_at, li
 use Rattle.schedule_replay.specs.Worlds.{IsNamed}
 use Rattle.storm_replay.specs.Storm.{start_verbs, step_verbs, end_verbs, entries_for, by_each, storm_steps, storm_entries}
 use Rattle.storm_replay.specs.Summary.{storm_lines}
-use Rattle.storm_replay.specs.Units.{unit_steps, unit_course}
+use Rattle.storm_replay.specs.layers.Units.{unit_steps, unit_course}
 
 -- ---- The verbs of a unit among entries
 unit_verbs : ℕ → List (ℕ × Verb) → List Verb

@@ -11,8 +11,8 @@ use Rattle.pitch_text.proofs.ManyLines.{AreGiven}
 use Rattle.venue_core.specs.Losses.{is_lost}
 use Rattle.storm_replay.specs.declared.verbs.Part.{Part}
 use Rattle.storm_replay.specs.declared.verbs.Part.TheVariants.{Start, Step, End}
-use Rattle.storm_replay.specs.Parts.{IsPart}
-use Rattle.storm_replay.specs.Parts.{part_verbs, part_by_each}
+use Rattle.storm_replay.specs.layers.Parts.{IsPart}
+use Rattle.storm_replay.specs.layers.Parts.{part_verbs, part_by_each}
 use Rattle.storm_replay.specs.Storm.{arrival, arrives_late, tenth_verbs, step_verbs, entries_for, storm_steps, storm_entries, by_each}
 use Rattle.storm_replay.proofs.Storms.{plan_given}
 

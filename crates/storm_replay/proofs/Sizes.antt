@@ -15,10 +15,10 @@ use Rattle.venue_core.specs.Plan.{plan_quantity, plan_price, plan_symbol, plan_o
 use Rattle.venue_core.proofs.PlanEffects.{quantity_most, price_most, symbol_case}
 use Rattle.storm_replay.specs.declared.verbs.Part.{Part}
 use Rattle.storm_replay.specs.declared.verbs.Part.TheVariants.{Start, Step, End}
-use Rattle.storm_replay.specs.Parts.{part_verbs, part_by_each}
+use Rattle.storm_replay.specs.layers.Parts.{part_verbs, part_by_each}
 use Rattle.storm_replay.specs.Storm.{start_verbs, arrival, arrives_late, tenth_verbs, step_verbs, end_verbs, entries_for, storm_steps, storm_schedule, by_each}
 use Rattle.storm_replay.proofs.Storms.{lines_more}
-use Rattle.storm_replay.specs.Parts.{IsPart}
+use Rattle.storm_replay.specs.layers.Parts.{IsPart}
 
 -- ---- Words
 -- a space and a word, for each

@@ -14,7 +14,7 @@ use Rattle.venue_core.specs.Plan.{plan_price, plan_order, plan_at, plan_command}
 use Rattle.venue_core.proofs.PlanEffects.{quantity_most, price_most, symbol_case}
 use Rattle.storm_replay.specs.declared.verbs.Part.{Part}
 use Rattle.storm_replay.specs.declared.verbs.Part.TheVariants.{Step}
-use Rattle.storm_replay.specs.Parts.{part_verbs, part_by_each}
+use Rattle.storm_replay.specs.layers.Parts.{part_verbs, part_by_each}
 use Rattle.storm_replay.specs.Storm.{entries_for, storm_steps, by_each}
 use Rattle.pitch_text.specs.Printing.{lines_text}
 

@@ -17,8 +17,8 @@ use Rattle.schedule_replay.specs.Replay.{limits_of, schedule_on}
 use Rattle.schedule_replay.specs.Worlds.{IsWorldOf, AreWorldsOf, AreRunThrough}
 use Rattle.storm_replay.specs.Storm.{storm_entries, storm_schedule}
 use Rattle.storm_replay.specs.Summary.{storm_lines}
-use Rattle.storm_replay.specs.Running.{AreStormWorlds}
-use Rattle.storm_replay.specs.Units.{unit_course, counting, IsUnitDone, AreUnitsDone}
+use Rattle.storm_replay.specs.layers.Running.{AreStormWorlds}
+use Rattle.storm_replay.specs.layers.Units.{unit_course, counting, IsUnitDone, AreUnitsDone}
 use Rattle.storm_replay.proofs.Naming.{named_within, each_named, verbs_are, limits_are}
 use Rattle.world_model.specs.Stands.{WorldStands}
 use Rattle.world_model.specs.declared.limits.Limits.{Limits}

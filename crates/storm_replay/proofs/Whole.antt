@@ -40,11 +40,11 @@ use Rattle.world_laws.proofs.Finish.{proxy_cut_current, proxy_cut_accepted, book
 use Rattle.world_laws.proofs.Reached.{AreSayable, sayable_verbs}
 use Rattle.schedule_replay.specs.Replay.{verbs_of, limits_of, default_limits}
 use Rattle.storm_replay.specs.Ended.{whole_text}
-use Rattle.storm_replay.specs.Limits.{most_units, most_steps}
+use Rattle.storm_replay.specs.layers.Limits.{most_units, most_steps}
 use Rattle.storm_replay.specs.Storm.{start_verbs, step_verbs, end_verbs, arrival, arrives_at_once, arrives_late, tenth_verbs}
 use Rattle.storm_replay.specs.StormText.{storm_line}
 use Rattle.storm_replay.specs.Summary.{state_line, ended_line, ended_lines, storm_lines, storm_text}
-use Rattle.storm_replay.specs.Units.{unit_steps, unit_course}
+use Rattle.storm_replay.specs.layers.Units.{unit_steps, unit_course}
 use Rattle.storm_replay.proofs.Naming.{verbs_are, limits_are}
 use Rattle.storm_replay.proofs.Reading.{step_given}
 

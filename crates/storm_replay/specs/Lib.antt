@@ -1,8 +1,5 @@
-pub mod Parts
 pub mod Storm
-pub mod Limits
 pub mod StormText
 pub mod Summary
 pub mod Ended
-pub mod Running
-pub mod Units
+pub mod layers

@@ -7,7 +7,7 @@ ghost use Rattle.pitch_text.specs.ScheduleGrammar.{entry as entry_grammar, sched
 ghost use Rattle.text_lines.specs.Text.{entries_of};
 ghost use Rattle.text_lines.specs.Items.{items_of};
 ghost use Rattle.storm_replay.specs.Storm.{storm_entries, storm_schedule};
-ghost use Rattle.storm_replay.specs.Limits.{most_units, most_steps};
+ghost use Rattle.storm_replay.specs.layers.Limits.{most_units, most_steps};
 ghost use Rattle.storm_replay.specs.Ended.{whole_text};
 ghost use Rattle.storm_replay.specs.Summary.{storm_text};
 

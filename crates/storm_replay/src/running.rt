@@ -2,14 +2,14 @@
 
 ghost use Rattle.std.specs.Prelude.{◌≡◌, ◌≤◌, ◌++◌, List, ℕ, [], length, OnOk, OnErr, IfOk};
 ghost use Rattle.pitch_text.specs.declared.verb.ScheduleEntry.{ScheduleEntry as EntrySaid};
-ghost use Rattle.schedule_replay.specs.Apart.{most_workers};
+ghost use Rattle.schedule_replay.specs.layers.Apart.{most_workers};
 ghost use Rattle.schedule_replay.specs.Worlds.{AreRunThrough, IsWorldOf};
-ghost use Rattle.schedule_replay.specs.Places.{AddsWorlds};
+ghost use Rattle.schedule_replay.specs.layers.Places.{AddsWorlds};
 ghost use Rattle.storm_replay.specs.Storm.{storm_schedule};
-ghost use Rattle.storm_replay.specs.Limits.{most_units, most_steps};
+ghost use Rattle.storm_replay.specs.layers.Limits.{most_units, most_steps};
 ghost use Rattle.storm_replay.specs.StormText.{storm_line};
 ghost use Rattle.storm_replay.specs.Summary.{ended_line, ended_lines};
-ghost use Rattle.storm_replay.specs.Running.{AreInTurn, AreStormWorlds};
+ghost use Rattle.storm_replay.specs.layers.Running.{AreInTurn, AreStormWorlds};
 ghost use Rattle.storm_replay.specs.Summary.{storm_text};
 ghost use Rattle.storm_replay.specs.Ended.{whole_text};
 

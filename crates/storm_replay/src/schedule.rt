@@ -4,9 +4,9 @@ ghost use Rattle.std.specs.Prelude.{◌≡◌, ◌≤◌, ◌++◌, ◌∷◌, [
 ghost use Rattle.std.specs.List.{AllByRecursion};
 ghost use Rattle.pitch_text.specs.Printing.{entry_text, lines_text};
 ghost use Rattle.pitch_text.specs.WellFormed.{IsWellFormed};
-ghost use Rattle.storm_replay.specs.Parts.{IsPart, part_verbs, part_by_each};
+ghost use Rattle.storm_replay.specs.layers.Parts.{IsPart, part_verbs, part_by_each};
 ghost use Rattle.storm_replay.specs.Storm.{start_verbs, arrival};
-ghost use Rattle.storm_replay.specs.Limits.{most_units, most_steps};
+ghost use Rattle.storm_replay.specs.layers.Limits.{most_units, most_steps};
 ghost use Rattle.storm_replay.specs.Storm.{arrives_at_once, arrives_late, tenth_verbs, step_verbs};
 ghost use Rattle.storm_replay.specs.Storm.{end_verbs, entries_for, storm_steps, storm_schedule};
 

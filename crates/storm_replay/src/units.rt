@@ -6,10 +6,10 @@ ghost use Rattle.std.specs.Fork.{slice_chunk};
 ghost use Rattle.std.specs.List.{AllByRecursion};
 ghost use Rattle.pitch_text.specs.WellFormed.{IsVerb};
 ghost use Rattle.pitch_text.specs.declared.verb.Verb.{Verb as VerbSaid};
-ghost use Rattle.storm_replay.specs.Parts.{IsPart, part_verbs};
-ghost use Rattle.storm_replay.specs.Limits.{most_steps};
-ghost use Rattle.storm_replay.specs.Units.{unit_steps, unit_course, counting, IsUnitDone};
-ghost use Rattle.storm_replay.specs.Units.{AreUnitsDone, AreGathered};
+ghost use Rattle.storm_replay.specs.layers.Parts.{IsPart, part_verbs};
+ghost use Rattle.storm_replay.specs.layers.Limits.{most_steps};
+ghost use Rattle.storm_replay.specs.layers.Units.{unit_steps, unit_course, counting, IsUnitDone};
+ghost use Rattle.storm_replay.specs.layers.Units.{AreUnitsDone, AreGathered};
 ghost use Rattle.world_model.specs.Stands.{WorldStands};
 ghost use Rattle.world_model.specs.declared.limits.Limits.{Limits as LimitsSaid};
 

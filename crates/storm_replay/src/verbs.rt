@@ -1,9 +1,9 @@
 //! What a unit of a storm does, as verbs.
 
 ghost use Rattle.std.specs.Prelude.{◌≡◌, ◌≤◌, ◌++◌, OnOk, true};
-ghost use Rattle.storm_replay.specs.Parts.{IsPart, part_verbs};
+ghost use Rattle.storm_replay.specs.layers.Parts.{IsPart, part_verbs};
 ghost use Rattle.storm_replay.specs.Storm.{start_verbs, arrival, arrives_at_once};
-ghost use Rattle.storm_replay.specs.Limits.{most_steps};
+ghost use Rattle.storm_replay.specs.layers.Limits.{most_steps};
 ghost use Rattle.storm_replay.specs.Storm.{arrives_late, tenth_verbs, step_verbs, end_verbs};
 
 use pitch_fields::OutOfMemory;

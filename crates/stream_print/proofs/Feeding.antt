@@ -10,12 +10,12 @@ use Rattle.pitch_model.specs.History.{Raw}
 use Rattle.feed_lines.specs.Follow.{lines_after, books_of}
 use Rattle.relay_unit.proofs.Bytes.{heard_within}
 use Rattle.stream_print.specs.Carriers.{carried_blocks, with_counts}
-use Rattle.stream_print.specs.Holding.{Suits}
+use Rattle.stream_print.specs.layers.Holding.{Suits}
 use Rattle.stream_print.specs.Told.{between}
 use Rattle.stream_print.specs.declared.carrier.Carrier.{Carrier}
 use Rattle.stream_print.specs.declared.stream_form.StreamForm.{StreamForm}
 use Rattle.stream_print.specs.declared.stream_form.StreamForm.TheVariants.{Follow, Show, Relay, Quotes}
-use Rattle.stream_print.specs.Feeding.{Fed}
+use Rattle.stream_print.specs.layers.Feeding.{Fed}
 use Rattle.stream_print.specs.Inputs.{lasting_trouble, end_trouble, or_trouble, trouble_of, AreAll, WritesAll, WritesTexts, Has, Refuses, WritesSome}
 use Rattle.stream_print.specs.Knowing.{HasPrinted}
 use Rattle.stream_print.specs.Page.{Prints, PrintsSuch}

@@ -7,7 +7,7 @@ use Rattle.stream_print.specs.Carriers.{carried_blocks}
 use Rattle.stream_print.specs.Told.{between}
 use Rattle.stream_print.specs.declared.carrier.Carrier.{Carrier}
 use Rattle.stream_print.specs.declared.stream_form.StreamForm.{StreamForm}
-use Rattle.stream_print.specs.Feeding.{Fed}
+use Rattle.stream_print.specs.layers.Feeding.{Fed}
 use Rattle.stream_print.specs.Inputs.{lasting_trouble, end_trouble, StreamEnds, WritesAll, WritesSome}
 use Rattle.stream_print.specs.Page.{PrintsSuch, Prints}
 use Rattle.stream_print.specs.Putting.{PutsSome}

@@ -6,8 +6,8 @@ use Rattle.std.proofs.lemmas.List.{append-nil, take-append-drop, length-take, le
 use Rattle.std.proofs.Math.ListN.{drop_of_length-le}
 use Rattle.pitch_io.specs.Putting.{Grows}
 use Rattle.stream_print.specs.Carriers.{carried_blocks}
-use Rattle.stream_print.specs.Failures.{unprinted}
-use Rattle.stream_print.specs.Feeding.{Fed, StreamFeeds}
+use Rattle.stream_print.specs.layers.Failures.{unprinted}
+use Rattle.stream_print.specs.layers.Feeding.{Fed, StreamFeeds}
 use Rattle.stream_print.specs.Inputs.{lasting_trouble, StreamEnds, Refuses, WritesSome}
 use Rattle.stream_print.specs.Knowing.{task_form}
 use Rattle.stream_print.specs.Printing.{PrintsPiece, Fails, FailsBlocks}

@@ -13,7 +13,7 @@ use Rattle.unit_packets.specs.Cutting.{blocks_of, rest_of}
 use Rattle.pcap_feed.specs.Capture.{Packet, is_cut_off, judge_head, judge_record, ordered, begin_of, front_of, packets_from, left_from, order_told_from}
 use Rattle.pcap_feed.specs.Datagrams.{span_bytes, payloads_in, payloads_of}
 use Rattle.pcap_feed.specs.Feeding.{Capturing, headed, past_head_by, past_head}
-use Rattle.pcap_feed.specs.Lent.{StandsAtFront}
+use Rattle.pcap_feed.specs.layers.Lent.{StandsAtFront}
 use Rattle.pcap_feed.specs.Payload.{payload}
 use Rattle.pcap_feed.specs.Stream.{items_within, left_over}
 use Rattle.pcap_feed.specs.declared.fault.ByteOrder.{ByteOrder}

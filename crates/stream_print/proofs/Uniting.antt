@@ -12,7 +12,7 @@ use Rattle.heard_items.specs.Units.{unit_history}
 use Rattle.feed_lines.specs.Follow.{unit_text, books_of}
 use Rattle.client_core.specs.Tracks.{Tracks, Keeps}
 use Rattle.client_core.specs.declared.client.UnitClient.{UnitClient}
-use Rattle.stream_print.specs.Books.{IsUnitText, AreBooksBelow, AreFirstBooks, named_text}
+use Rattle.stream_print.specs.layers.Books.{IsUnitText, AreBooksBelow, AreFirstBooks, named_text}
 use Rattle.stream_print.specs.declared.stream_form.StreamForm.TheVariants.{Follow}
 use Rattle.unit_clients.specs.Clients.{Units}
 use Rattle.stream_print.specs.Page.{PrintsSuch, Prints}

@@ -6,7 +6,7 @@ use Rattle.relay_unit.specs.Relays.{Relays, HaveRelayed}
 use Rattle.relay_unit.specs.Sparing.{messages_heard, IsSpentBy}
 use Rattle.relay_unit.specs.declared.relay.RelayError.{RelayError}
 use Rattle.relay_unit.specs.declared.relay.RelayError.TheVariants as relaying
-use Rattle.stream_print.specs.Failures.{unprinted, unrelayed}
+use Rattle.stream_print.specs.layers.Failures.{unprinted, unrelayed}
 use Rattle.stream_print.specs.Inputs.{StreamEnds, WritesSome}
 use Rattle.stream_print.specs.Knowing.{task_form}
 use Rattle.stream_print.specs.Printing.{FailsBlock}

@@ -1,13 +1,8 @@
-pub mod Books
 pub mod Carriers
 pub mod Counting
-pub mod Failures
-pub mod Feeding
-pub mod Holding
 pub mod Inputs
 pub mod Knowing
 pub mod Page
-pub mod Pieces
 pub mod Printing
 pub mod Putting
 pub mod Readers
@@ -16,3 +11,4 @@ pub mod Sinks
 pub mod Texts
 pub mod TextLaws
 pub mod Told
+pub mod layers

@@ -3,7 +3,7 @@
 ghost use Rattle.std.specs.Prelude.{◌≡◌, ◌≢◌, ◌++◌, [], List, ℕ, OnOk, OnErr, Err, length};
 ghost use Rattle.unit_packets.specs.Blocks.{Block};
 ghost use Rattle.unit_clients.specs.Clients.{AreUnits, IsClient, Clients};
-ghost use Rattle.stream_print.specs.Books.{IsUnitText, AreBooksBelow, AreFirstBooks};
+ghost use Rattle.stream_print.specs.layers.Books.{IsUnitText, AreBooksBelow, AreFirstBooks};
 ghost use Rattle.std.specs.List.{flat_map};
 ghost use Rattle.stream_print.specs.Sinks.{PagePrints, PagePrintsSuch, PutsPrefix, PutsPrefixSuch};
 ghost use Rattle.stream_print.specs.Sinks.{CountsFault};

@@ -67,7 +67,7 @@ impl From<OutOfMemory> for PrintError {
 
 impl From<RelayError> for PrintError {
     ghost use Rattle.std.specs.Prelude.{◌≡◌};
-    ghost use Rattle.stream_print.specs.Failures.{unrelayed};
+    ghost use Rattle.stream_print.specs.layers.Failures.{unrelayed};
 
     ghost from_gives = { λ relayed error. error ≡ unrelayed relayed };
 
@@ -81,7 +81,7 @@ impl From<RelayError> for PrintError {
 
 impl From<PrintError> for StreamFailure {
     ghost use Rattle.std.specs.Prelude.{◌≡◌};
-    ghost use Rattle.stream_print.specs.Failures.{unprinted};
+    ghost use Rattle.stream_print.specs.layers.Failures.{unprinted};
 
     ghost from_gives = { λ error failure. failure ≡ unprinted error };
 

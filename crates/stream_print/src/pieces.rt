@@ -2,8 +2,8 @@
 
 ghost use Rattle.std.specs.Prelude.{◌≡◌, ◌<◌, IfOk, length};
 ghost use Rattle.stream_print.specs.Sinks.{CountsFault};
-ghost use Rattle.pitch_io.specs.Taking.{Takes, TakeFailed};
-ghost use Rattle.stream_print.specs.Pieces.{IsBetween};
+ghost use Rattle.pitch_io.specs.layers.Taking.{Takes, TakeFailed};
+ghost use Rattle.stream_print.specs.layers.Pieces.{IsBetween};
 
 use pitch_fields::OutOfMemory;
 use pitch_io::{Source, Taken};

@@ -25,7 +25,7 @@ impl Printer {
     ghost use Rattle.std.specs.Prelude.{IfOk, IfErr, Err};
     ghost use Rattle.unit_packets.specs.Blocks.{Block};
     ghost use Rattle.stream_print.specs.Sinks.{PagePrintsSuch, PutsPrefixSuch, CountsFault};
-    ghost use Rattle.stream_print.specs.Holding.{CanHold};
+    ghost use Rattle.stream_print.specs.layers.Holding.{CanHold};
     ghost use Rattle.stream_print.specs.Knowing.{task_form, HasPrinted};
     ghost use Rattle.stream_print.specs.Printing.{PrintsBlocks, FailsBlocks};
     ghost use Rattle.stream_print.specs.TextLaws.{IsEnd, IsPrefixOfEnd};

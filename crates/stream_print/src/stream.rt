@@ -4,10 +4,10 @@ ghost use Rattle.std.specs.Prelude.{◌≡◌, ◌≢◌, Option, None, ◌≤�
 ghost use Rattle.std.specs.Prelude.{Err};
 ghost use Rattle.std.specs.Io.KnownBytes.{Consumes, Keeps, IsAtEnd};
 ghost use Rattle.stream_print.specs.Sinks.{CountsFault};
-ghost use Rattle.stream_print.specs.Feeding.{Fed, StreamFeeds};
+ghost use Rattle.stream_print.specs.layers.Feeding.{Fed, StreamFeeds};
 ghost use Rattle.stream_print.specs.Inputs.{stream_limit, lasting_trouble, StopsSoon, StreamEnds};
 ghost use Rattle.stream_print.specs.Told.{between, told, TakesAtMost};
-ghost use Rattle.stream_print.specs.Holding.{CanHold, Suits};
+ghost use Rattle.stream_print.specs.layers.Holding.{CanHold, Suits};
 ghost use Rattle.stream_print.specs.Knowing.{task_form};
 ghost use Rattle.stream_print.specs.Readers.{rest_size};
 ghost use Rattle.stream_print.specs.declared.carrier.Carrier.{Carrier};

@@ -5,7 +5,7 @@ ghost use Rattle.std.specs.Prelude.{Err};
 ghost use Rattle.unit_packets.specs.Blocks.{Block};
 ghost use Rattle.feed_lines.specs.Follow.{line_after};
 ghost use Rattle.unit_clients.specs.Clients.{HaveHeard};
-ghost use Rattle.stream_print.specs.Holding.{CanHold};
+ghost use Rattle.stream_print.specs.layers.Holding.{CanHold};
 ghost use Rattle.stream_print.specs.Knowing.{task_form, Knows};
 ghost use Rattle.stream_print.specs.Printing.{PrintsBlock, FailsBlock};
 ghost use Rattle.stream_print.specs.Sinks.{PagePrints, PagePrintsSuch, PutsPrefix, PutsPrefixSuch};

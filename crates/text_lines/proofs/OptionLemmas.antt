@@ -8,7 +8,7 @@ use Rattle.text_lines.specs.declared.fault.Fault.{Fault}
 use Rattle.text_lines.specs.declared.fault.TextCause.{TextCause}
 use Rattle.text_lines.specs.declared.fault.TextCause.TheVariants.{BadWord, ExtraField}
 use Rattle.text_lines.specs.Fields.{Field, Rest, rest_after}
-use Rattle.text_lines.specs.Next.{word_on, value_on, as_some, end_on}
+use Rattle.text_lines.specs.layers.Next.{word_on, value_on, as_some, end_on}
 use Rattle.text_lines.specs.Options.{Optional, named, flag, pick, unknown, with_option, picked, options_on}
 use Rattle.text_lines.specs.Reading.{LineReading, then_read, gives, or_fault}
 

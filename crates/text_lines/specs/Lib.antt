@@ -1,10 +1,8 @@
 pub mod Fields
-pub mod Coding
-pub mod Seen
 pub mod Kinds
 pub mod Reading
 pub mod Options
-pub mod Next
 pub mod Text
 pub mod Items
 pub mod Causes
+pub mod layers

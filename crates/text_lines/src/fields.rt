@@ -4,8 +4,8 @@ ghost use Rattle.std.specs.Prelude.{◌≡◌, ◌≤◌, ◌<◌, ◌+◌, ◌^
 ghost use Rattle.std.specs.List.{position_or_len};
 ghost use Rattle.std.specs.Option.{ForSome};
 ghost use Rattle.text_lines.specs.Fields.{Rest, fields_from, fields_of};
-ghost use Rattle.text_lines.specs.Coding.{rest_code};
-ghost use Rattle.text_lines.specs.Seen.{seen, field_of, IsNext, TakesField};
+ghost use Rattle.text_lines.specs.layers.Coding.{rest_code};
+ghost use Rattle.text_lines.specs.layers.Seen.{seen, field_of, IsNext, TakesField};
 
 use std::marker::Model;
 

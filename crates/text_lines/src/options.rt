@@ -2,7 +2,7 @@
 
 ghost use Rattle.std.specs.Prelude.{◌≡◌, Ok};
 ghost use Rattle.text_lines.specs.Kinds.{number_of};
-ghost use Rattle.text_lines.specs.Next.{word_next, value_next, end_next};
+ghost use Rattle.text_lines.specs.layers.Next.{word_next, value_next, end_next};
 ghost use Rattle.text_lines.specs.Reading.{Reads};
 
 use crate::fault::{Fault, TextCause};

@@ -1,4 +1,4 @@
 pub mod Tables
-pub mod Lending
 pub mod Clients
 pub mod Room
+pub mod layers

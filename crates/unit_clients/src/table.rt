@@ -3,7 +3,7 @@
 ghost use Rattle.std.specs.Prelude.{◌≡◌, ◌≤◌, ℕ, Option, Some, None, IfOk, length, slice_get};
 ghost use Rattle.std.specs.Borrow.{sem};
 ghost use Rattle.pitch_fields.specs.Limits.{most_held};
-ghost use Rattle.unit_clients.specs.Lending.{LendsPlace};
+ghost use Rattle.unit_clients.specs.layers.Lending.{LendsPlace};
 ghost use Rattle.unit_clients.specs.Tables.{AtEach};
 
 use pitch_fields::OutOfMemory;

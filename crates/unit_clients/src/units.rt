@@ -10,7 +10,7 @@ ghost use Rattle.pitch_model.specs.Honest.{Honest};
 ghost use Rattle.heard_items.specs.Units.{unit_history};
 ghost use Rattle.heard_items.specs.Heard.{heard_block};
 ghost use Rattle.heard_items.specs.Changes.{block_change};
-ghost use Rattle.client_core.specs.Hearing.{Changes, HearsBlock, KeepsBlock};
+ghost use Rattle.client_core.specs.layers.Hearing.{Changes, HearsBlock, KeepsBlock};
 ghost use Rattle.client_core.specs.Tracks.{Tracks, Keeps};
 ghost use Rattle.client_core.specs.Client.{IsAsBefore, KeepsRoom, spare_of};
 ghost use Rattle.unit_clients.specs.Clients.{IsClient, TracksAt, IsSlotAsBefore, KeepsTo};

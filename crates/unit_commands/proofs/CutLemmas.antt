@@ -6,7 +6,7 @@ use Rattle.std.proofs.lemmas.List.{append-nil, take_more, take_at, drop_at, leng
 use Rattle.std.proofs.lemmas.List.Folds.{list_any-append}
 use Rattle.std.proofs.lemmas.List.Sums.{sum_by-cons, sum_by-append}
 use Rattle.unit_commands.specs.Pieces.{UnreadText, AreKept, is_line_feed, line_feeds, whole_lines, last_line, piece_limit, rest_limit, piece_pushed}
-use Rattle.unit_commands.specs.PiecesLaws.{EndsLine}
+use Rattle.unit_commands.specs.layers.PiecesLaws.{EndsLine}
 
 -- ---- whether a text has a line feed
 

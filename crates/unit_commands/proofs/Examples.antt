@@ -5,7 +5,7 @@ use Rattle.pitch_text.specs.CommandGrammar.{command, clear_rule, end_rule}
 use Rattle.text_lines.specs.declared.fault.TextCause.TheVariants.{BadWord, BadNumber, MissingField}
 use Rattle.text_lines.specs.Text.{said_of}
 use Rattle.unit_commands.specs.Pieces.{piece_limit, rest_limit, piece_pushed, lines_passed, read_through}
-use Rattle.unit_commands.specs.PiecesLaws.{said_behind}
+use Rattle.unit_commands.specs.layers.PiecesLaws.{said_behind}
 use Rattle.unit_commands.specs.UnitCommands.{unit_command}
 
 -- ---- what lines say

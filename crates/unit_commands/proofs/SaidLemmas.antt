@@ -8,7 +8,8 @@ use Rattle.text_lines.specs.declared.fault.Fault.{Fault}
 use Rattle.text_lines.specs.Reading.{LineReading}
 use Rattle.text_lines.specs.Text.{TextFault, line_of, lines_of, said_on, said_from, said_of, with_front, all_of, entries_of}
 use Rattle.unit_commands.specs.Pieces.{is_line_feed, line_feeds, whole_lines, last_line}
-use Rattle.unit_commands.specs.PiecesLaws.{EndsLine, entry_later, fault_later, line_later, said_behind, SaysByPieces, SaysAtEnd, GivesInTurn}
+use Rattle.unit_commands.specs.layers.PiecesLaws.{EndsLine, entry_later, fault_later, line_later}
+use Rattle.unit_commands.specs.layers.PiecesLaws.{said_behind, SaysByPieces, SaysAtEnd, GivesInTurn}
 use Rattle.unit_commands.proofs.CutLemmas.{feeds_append, grown, joined, ends, whole_counts}
 
 -- ---- the lines

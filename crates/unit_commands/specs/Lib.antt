@@ -1,4 +1,3 @@
 pub mod UnitCommands
 pub mod Pieces
-pub mod PiecesLaws
-pub mod Causes
+pub mod layers

@@ -2,9 +2,10 @@
 //! definitions alone.
 
 ghost use Rattle.std.specs.Prelude.{List, ℕ};
-ghost use Rattle.unit_commands.specs.PiecesLaws.{TextsAreCut, TextCutsAreOne, TextCutsGrow};
-ghost use Rattle.unit_commands.specs.PiecesLaws.{PieceIsRead, PiecesAreRead, EndsLine, SaysInTurn};
-ghost use Rattle.unit_commands.specs.PiecesLaws.{SaysByPieces, SaysAtEnd, GivesInTurn};
+ghost use Rattle.unit_commands.specs.layers.PiecesLaws.{TextsAreCut, TextCutsAreOne, TextCutsGrow};
+ghost use Rattle.unit_commands.specs.layers.PiecesLaws.{PieceIsRead, PiecesAreRead, EndsLine};
+ghost use Rattle.unit_commands.specs.layers.PiecesLaws.{SaysInTurn};
+ghost use Rattle.unit_commands.specs.layers.PiecesLaws.{SaysByPieces, SaysAtEnd, GivesInTurn};
 
 use text_lines::Grammar;
 

@@ -27,7 +27,7 @@ pub enum PieceError {
 /// The error in words, as `out of memory`.
 impl fmt::Display for PieceError {
     ghost use Rattle.std.specs.Prelude.{Some};
-    ghost use Rattle.unit_commands.specs.Causes.{piece_error_text};
+    ghost use Rattle.unit_commands.specs.layers.Causes.{piece_error_text};
 
     ghost output = { λ error. Some (piece_error_text error) };
 

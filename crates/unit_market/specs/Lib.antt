@@ -1,4 +1,4 @@
 pub mod Standing
 pub mod Markets
 pub mod Views
-pub mod Invariant
+pub mod layers

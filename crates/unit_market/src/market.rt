@@ -40,9 +40,9 @@ pub struct Market {
 }
 
 impl Model for Market {
-    ghost use Rattle.unit_market.specs.Invariant.{HasSome};
+    ghost use Rattle.unit_market.specs.layers.Invariant.{HasSome};
     ghost use Rattle.unit_market.specs.Standing.{MarketState};
-    ghost use Rattle.unit_market.specs.Invariant.{market_code};
+    ghost use Rattle.unit_market.specs.layers.Invariant.{market_code};
 
     ghost Value = { MarketState };
 

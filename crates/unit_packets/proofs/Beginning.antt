@@ -5,10 +5,10 @@ use Rattle.std.proofs.lemmas.Bool.{cases_eq}
 use Rattle.std.proofs.lemmas.List.{append-nil, length-drop, take_at, drop-append-le}
 use Rattle.std.proofs.lemmas.List.Folds.{concat-append}
 use Rattle.pitch_messages.specs.Raw.{IsRaw, raws_of}
-use Rattle.pitch_messages.specs.Chains.{IsChain}
+use Rattle.pitch_messages.specs.layers.Chains.{IsChain}
 use Rattle.pitch_messages.proofs.Chains.{chain_of, chain_push, empty_chain}
 use Rattle.unit_packets.specs.Blocks.{StaysWithin}
-use Rattle.unit_packets.specs.Begun.{IsBegun}
+use Rattle.unit_packets.specs.layers.Begun.{IsBegun}
 use Rattle.unit_packets.specs.BlockBytes.{header_bytes, block_bytes}
 use Rattle.unit_packets.specs.Lending.{header_for}
 use Rattle.unit_packets.specs.Packing.{sequence_after, fits_datagram}

@@ -9,7 +9,7 @@ use Rattle.unit_packets.specs.declared.header.Header.{Header}
 use Rattle.unit_packets.specs.declared.header.BlockError.{BlockError}
 use Rattle.unit_packets.specs.Judging.{judge, block_at, header_of}
 use Rattle.unit_packets.specs.Cutting.{blocks_of, rest_of}
-use Rattle.unit_packets.specs.CuttingLaws.{CutsAreComputed, CutsAreOne}
+use Rattle.unit_packets.specs.layers.CuttingLaws.{CutsAreComputed, CutsAreOne}
 use Rattle.unit_packets.proofs.Judged.{judged_begins, fault_none, front_stands}
 use Rattle.unit_packets.proofs.Stable.{judge_found}
 use Rattle.unit_packets.proofs.Cuts.{first_of, none_of, cases_Result}

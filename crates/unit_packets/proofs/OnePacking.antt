@@ -14,7 +14,8 @@ use Rattle.unit_packets.specs.Blocks.{Block, IsBlock, StaysWithin}
 use Rattle.unit_packets.specs.BlockBytes.{block_bytes}
 use Rattle.unit_packets.specs.Packing.{FitsDatagram, sequence_after, IsDatagram, IsFull, IsPacking, fits_datagram, begun_datagrams, packed_on, packed, bytes_in}
 use Rattle.unit_packets.specs.Pushing.{Packing}
-use Rattle.unit_packets.specs.Packings.{Finishes, GivesPacking, PackingIsComputed, PackingIsOne}
+use Rattle.unit_packets.specs.layers.Packings.{Finishes, GivesPacking, PackingIsComputed}
+use Rattle.unit_packets.specs.layers.Packings.{PackingIsOne}
 use Rattle.unit_packets.proofs.OneCutting.{AreSmall, drop_small}
 use Rattle.pitch_fields.proofs.Bytes.{byte_at}
 use Rattle.unit_packets.proofs.Packs.{bytes_append, fits_true, fits_of, one_fits, after_known, packed_takes, nothing_more}

@@ -9,7 +9,7 @@ use Rattle.pitch_messages.proofs.Chains.{all_append}
 use Rattle.unit_packets.specs.Blocks.{StaysWithin}
 use Rattle.unit_packets.specs.Packing.{IsPacking, packed, bytes_in, sequence_after}
 use Rattle.unit_packets.specs.Pushing.{Packing, HasPacked, next_sequence}
-use Rattle.unit_packets.specs.Packings.{Pushes, Finishes}
+use Rattle.unit_packets.specs.layers.Packings.{Pushes, Finishes}
 use Rattle.unit_packets.proofs.OnePacking.{packing_is_computed}
 use Rattle.unit_packets.proofs.Packs.{after_known, after_zero, bytes_append}
 

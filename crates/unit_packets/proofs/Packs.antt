@@ -9,7 +9,7 @@ use Rattle.pitch_messages.specs.Room.{Roomy}
 use Rattle.unit_packets.specs.BlockBytes.{block_bytes}
 use Rattle.unit_packets.specs.Packing.{FitsDatagram, sequence_after, fits_datagram, begun_datagrams, packed_on, packed, bytes_in}
 use Rattle.unit_packets.specs.Pushing.{Packing, next_sequence, HasPacked}
-use Rattle.unit_packets.specs.Packings.{unpacked, Pushes, Finishes}
+use Rattle.unit_packets.specs.layers.Packings.{unpacked, Pushes, Finishes}
 
 -- ---- Sequences
 pub after_zero : (first count : ℕ) → first ≡ 0 → sequence_after first count ≡ 0

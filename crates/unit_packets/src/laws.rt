@@ -1,11 +1,11 @@
 //! Laws of blocks: one way to cut a stream, in whatever pieces, and one way to pack messages.
 
 ghost use Rattle.std.specs.Prelude.{[]};
-ghost use Rattle.unit_packets.specs.CuttingLaws.{CutsAreComputed, CutsAreOne};
+ghost use Rattle.unit_packets.specs.layers.CuttingLaws.{CutsAreComputed, CutsAreOne};
 ghost use Rattle.unit_packets.specs.Feeding.{StandsFor};
 ghost use Rattle.unit_packets.specs.Pieces.{PiecesAreCut, PiecesDoNotMatter};
 ghost use Rattle.unit_packets.specs.Pieces.{unread};
-ghost use Rattle.unit_packets.specs.Packings.{PackingIsComputed, PackingIsOne};
+ghost use Rattle.unit_packets.specs.layers.Packings.{PackingIsComputed, PackingIsOne};
 
 /// The laws of cutting a stream into blocks: the cutting that the definitions compute is a longest
 /// list of blocks with what follows it, and no other cutting of the same bytes is one.

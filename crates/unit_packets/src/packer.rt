@@ -8,8 +8,8 @@ ghost use Rattle.unit_packets.specs.BlockBytes.{header_bytes, block_bytes};
 ghost use Rattle.unit_packets.specs.Blocks.{most_messages, StaysWithin};
 ghost use Rattle.unit_packets.specs.Packing.{datagram_size, sequence_after, fits_datagram};
 ghost use Rattle.unit_packets.specs.Pushing.{next_sequence, HasPacked};
-ghost use Rattle.unit_packets.specs.Packings.{unpacked, Pushes, Finishes};
-ghost use Rattle.unit_packets.specs.Packings.{GivesPacking};
+ghost use Rattle.unit_packets.specs.layers.Packings.{unpacked, Pushes, Finishes};
+ghost use Rattle.unit_packets.specs.layers.Packings.{GivesPacking};
 
 use crate::header::Header;
 use crate::writing::header_bytes;
@@ -42,7 +42,7 @@ impl Model for Packer {
     ghost use Rattle.std.specs.Prelude.{drop};
     ghost use Rattle.pitch_messages.specs.Raw.{raws_of};
     ghost use Rattle.unit_packets.specs.Pushing.{Packing};
-    ghost use Rattle.unit_packets.specs.Begun.{IsBegun};
+    ghost use Rattle.unit_packets.specs.layers.Begun.{IsBegun};
 
     ghost Value = { Packing };
 

@@ -14,9 +14,9 @@ use Rattle.venue_core.specs.Commands.{raw_of}
 use Rattle.venue_core.specs.Plan.{plan, plan_command}
 use Rattle.venue_core.proofs.PlanBooks.{plan_length, plan_step}
 use Rattle.venue_core.proofs.PlanBytes.{plan_at_place}
-use Rattle.shared_unit.specs.Histories.{IsLegal, then_done}
+use Rattle.shared_unit.specs.layers.Histories.{IsLegal, then_done}
 use Rattle.drill_client.proofs.Playing.{plan_grows}
-use Rattle.unit_threads.specs.Publishing.{IsPlanned, HasAccepted}
+use Rattle.unit_threads.specs.layers.Publishing.{IsPlanned, HasAccepted}
 
 -- one more command was accepted
 pub accepted_next : (history : List Operation) (number unit index : ℕ) (raw : Raw) → 1 ≤ index → raw ≡ raw_of (plan_command number unit index) → HasAccepted history number unit (index - 1) (2 * (index - 1))

@@ -7,7 +7,7 @@ use Rattle.unit_packets.proofs.Packs.{bytes_more}
 use Rattle.pitch_messages.specs.Room.{Roomy}
 use Rattle.unit_packets.specs.Packing.{bytes_in}
 use Rattle.drill_client.specs.declared.words.Word.{Word}
-use Rattle.unit_threads.specs.Saying.{words_for_command, words_through}
+use Rattle.unit_threads.specs.layers.Saying.{words_for_command, words_through}
 
 -- and so of what is sent
 pub one_sent_more : {X M : Type 0} (wrap : X → M) (before now after : List M) (items : List X) (i : ℕ) (item copy : X) → slice_get items i ≡ Some item → copy ≡ item

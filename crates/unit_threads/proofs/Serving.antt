@@ -12,19 +12,19 @@ use Rattle.pitch_model.specs.History.{Raw}
 use Rattle.heard_items.specs.Datagrams.{IsPiece}
 use Rattle.heard_items.proofs.Datagrams.{pieces_more}
 use Rattle.gap_store.specs.Look.{View, look}
-use Rattle.gap_store.specs.Looking.{given, PacksRange}
+use Rattle.gap_store.specs.layers.Looking.{given, PacksRange}
 use Rattle.gap_store.specs.declared.found.Found.TheVariants.{Kept}
 use Rattle.spin_server.specs.Served.{is_served}
 use Rattle.spin_server.specs.declared.lookup.Imaged.{Imaged}
 use Rattle.spin_server.specs.declared.lookup.Imaged.TheVariants as answers
-use Rattle.shared_unit.specs.Answers.{AnswersImage}
-use Rattle.shared_unit.specs.Histories.{IsLegal, served_at}
+use Rattle.shared_unit.specs.layers.Answers.{AnswersImage}
+use Rattle.shared_unit.specs.layers.Histories.{IsLegal, served_at}
 use Rattle.shared_unit.proofs.Fronts.{prefix_length, prefix_trans}
 use Rattle.venue_core.specs.Plan.{plan}
 use Rattle.venue_core.proofs.PlanBooks.{plan_length}
-use Rattle.drill_client.specs.Following.{IsImageOf}
+use Rattle.drill_client.specs.layers.Following.{IsImageOf}
 use Rattle.drill_client.proofs.Answering.{image_of_more, newest_there, image_is, range_pieces}
-use Rattle.unit_threads.specs.Publishing.{IsPlanned, HasAll}
+use Rattle.unit_threads.specs.layers.Publishing.{IsPlanned, HasAll}
 
 -- the messages of a history of the run are the first of the plan
 pub planned_prefix : (fixed : Bool) (messages : List Raw) (number unit count : ℕ) (history : List Operation) → IsPlanned fixed messages number unit count → IsLegal fixed messages history

@@ -1,5 +1,1 @@
-pub mod Listening
-pub mod Publishing
-pub mod Replying
-pub mod Saying
-pub mod Telling
+pub mod layers

@@ -3,12 +3,13 @@
 ghost use Rattle.std.specs.Prelude.{◌≡◌, ◌++◌, ℕ, List, OnOk, IfOk};
 ghost use Rattle.pitch_model.specs.History.{Entry};
 ghost use Rattle.venue_core.specs.Plan.{plan};
-ghost use Rattle.drill_client.specs.Following.{Follows, FollowsOn};
-ghost use Rattle.drill_client.specs.Words.{heard_word, heard_reply};
-ghost use Rattle.drill_client.specs.Limits.{drill_kept};
-ghost use Rattle.drill_client.specs.Answered.{heard_with_one, with_tick};
-ghost use Rattle.unit_threads.specs.Listening.{tick_requests, is_sent, is_again, after_heard};
-ghost use Rattle.unit_threads.specs.Listening.{heard_after, asks_after};
+ghost use Rattle.drill_client.specs.layers.Following.{Follows, FollowsOn};
+ghost use Rattle.drill_client.specs.layers.Words.{heard_word, heard_reply};
+ghost use Rattle.drill_client.specs.layers.Limits.{drill_kept};
+ghost use Rattle.drill_client.specs.layers.Answered.{heard_with_one, with_tick};
+ghost use Rattle.unit_threads.specs.layers.Listening.{tick_requests, is_sent, is_again};
+ghost use Rattle.unit_threads.specs.layers.Listening.{after_heard};
+ghost use Rattle.unit_threads.specs.layers.Listening.{heard_after, asks_after};
 
 use crate::course::Course;
 use crate::ends::{ClientEnds, Request};

@@ -2,9 +2,9 @@
 
 ghost use Rattle.std.specs.Prelude.{◌≡◌, ◌*◌, ℕ, OnOk};
 ghost use Rattle.venue_core.specs.Plan.{plan};
-ghost use Rattle.drill_client.specs.Ending.{AsksForAll, IsAtEnd};
-ghost use Rattle.drill_client.specs.Following.{FollowsOn};
-ghost use Rattle.unit_threads.specs.Publishing.{HasAccepted, HasAdvertised};
+ghost use Rattle.drill_client.specs.layers.Ending.{AsksForAll, IsAtEnd};
+ghost use Rattle.drill_client.specs.layers.Following.{FollowsOn};
+ghost use Rattle.unit_threads.specs.layers.Publishing.{HasAccepted, HasAdvertised};
 
 use crate::course::Course;
 use crate::service::image_of_all;

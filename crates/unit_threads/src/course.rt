@@ -1,8 +1,8 @@
 //! Which messages a unit's drill has.
 
 ghost use Rattle.std.specs.Prelude.{◌≡◌, ◌≤◌};
-ghost use Rattle.drill_client.specs.Limits.{most_drilled};
-ghost use Rattle.unit_threads.specs.Publishing.{IsPlanned};
+ghost use Rattle.drill_client.specs.layers.Limits.{most_drilled};
+ghost use Rattle.unit_threads.specs.layers.Publishing.{IsPlanned};
 
 use drill_client::DrillRun;
 use pitch_io::{Role, Work};

@@ -8,11 +8,11 @@ ghost use Rattle.pitch_model.specs.Advertising.{accepted_by};
 ghost use Rattle.heard_items.specs.Datagrams.{IsPiece};
 ghost use Rattle.venue_core.specs.Plan.{plan};
 ghost use Rattle.drill_client.specs.declared.words.Word.TheVariants.{Sent, Last};
-ghost use Rattle.unit_threads.specs.Publishing.{HasAccepted, HasAdvertised};
-ghost use Rattle.drill_client.specs.Played.{command_datagrams, is_round};
-ghost use Rattle.unit_threads.specs.Saying.{line_words, round_words, words_for_command};
-ghost use Rattle.unit_threads.specs.Saying.{words_through};
-ghost use Rattle.unit_threads.specs.Telling.{told_in, told_with};
+ghost use Rattle.unit_threads.specs.layers.Publishing.{HasAccepted, HasAdvertised};
+ghost use Rattle.drill_client.specs.layers.Played.{command_datagrams, is_round};
+ghost use Rattle.unit_threads.specs.layers.Saying.{line_words, round_words, words_for_command};
+ghost use Rattle.unit_threads.specs.layers.Saying.{words_through};
+ghost use Rattle.unit_threads.specs.layers.Telling.{told_in, told_with};
 
 use crate::course::Course;
 use crate::ends::{PublisherEnds, Request};

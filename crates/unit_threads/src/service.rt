@@ -9,13 +9,13 @@ ghost use Rattle.pitch_model.specs.History.{adds};
 ghost use Rattle.pitch_model.specs.Image.{image};
 ghost use Rattle.heard_items.specs.Datagrams.{IsPiece};
 ghost use Rattle.spin_server.specs.Served.{is_served};
-ghost use Rattle.shared_unit.specs.Histories.{IsLegal, kept_at, served_at};
+ghost use Rattle.shared_unit.specs.layers.Histories.{IsLegal, kept_at, served_at};
 ghost use Rattle.venue_core.specs.Plan.{plan};
 ghost use Rattle.drill_client.specs.declared.words.Reply.TheVariants.{Again};
-ghost use Rattle.unit_threads.specs.Publishing.{HasAll};
-ghost use Rattle.drill_client.specs.Answered.{keeps_range};
-ghost use Rattle.unit_threads.specs.Replying.{replies_to_gap, replies_to_spin, replies_to};
-ghost use Rattle.unit_threads.specs.Replying.{replies_by, Includes};
+ghost use Rattle.unit_threads.specs.layers.Publishing.{HasAll};
+ghost use Rattle.drill_client.specs.layers.Answered.{keeps_range};
+ghost use Rattle.unit_threads.specs.layers.Replying.{replies_to_gap, replies_to_spin, replies_to};
+ghost use Rattle.unit_threads.specs.layers.Replying.{replies_by, Includes};
 
 use crate::course::Course;
 use crate::ends::{Request, ServiceEnds};

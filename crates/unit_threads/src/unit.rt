@@ -2,11 +2,11 @@
 
 ghost use Rattle.std.specs.Prelude.{◌≡◌, ◌≤◌, ◌*◌, [], length, IfOk};
 ghost use Rattle.venue_core.specs.Plan.{plan};
-ghost use Rattle.drill_client.specs.Ending.{IsAtEnd};
-ghost use Rattle.drill_client.specs.Following.{FollowsOn};
+ghost use Rattle.drill_client.specs.layers.Ending.{IsAtEnd};
+ghost use Rattle.drill_client.specs.layers.Following.{FollowsOn};
 ghost use Rattle.drill_client.specs.DrillText.{drill_line};
-ghost use Rattle.drill_client.specs.Limits.{most_drilled, drill_kept};
-ghost use Rattle.unit_threads.specs.Publishing.{HasAccepted, HasAdvertised, IsPlanned};
+ghost use Rattle.drill_client.specs.layers.Limits.{most_drilled, drill_kept};
+ghost use Rattle.unit_threads.specs.layers.Publishing.{HasAccepted, HasAdvertised, IsPlanned};
 
 use crate::client::follow;
 use crate::closing::close;

@@ -4,7 +4,7 @@ ghost use Rattle.std.specs.Prelude.{◌≡◌, ◌+◌, ◌≤◌, ◌<◌, ◌+
 ghost use Rattle.std.specs.Prelude.{slice_get};
 ghost use Rattle.std.specs.Option.{option_copied};
 ghost use Rattle.drill_client.specs.DrillText.{drill_line};
-ghost use Rattle.drill_client.specs.Limits.{most_drilled, most_drill_units};
+ghost use Rattle.drill_client.specs.layers.Limits.{most_drilled, most_drill_units};
 ghost use Rattle.drill_client.specs.DrillText.{drill_text};
 
 use crate::unit::unit_text;

@@ -24,7 +24,7 @@ use Rattle.pitch_text.specs.declared.command.Command.TheVariants as commands
 use Rattle.venue_core.specs.Commands.{message_of, raw_of, ends_session}
 use Rattle.venue_core.specs.Refusals.{is_end, reads_end, is_ended}
 use Rattle.venue_core.specs.Standing.{VenueState}
-use Rattle.venue_core.specs.Taking.{HaveMessages, Advances}
+use Rattle.venue_core.specs.layers.Taking.{HaveMessages, Advances}
 use Rattle.venue_core.specs.Stands.{Stands, last_of}
 use Rattle.venue_core.specs.Waiting.{Waiting, Waits}
 

@@ -16,7 +16,7 @@ use Rattle.pitch_messages.specs.Writing.{written}
 use Rattle.pitch_messages.proofs.RoundTrip.{message_back}
 use Rattle.pitch_model.specs.Book.{Book, Effect, ShowsSecond, AddsOrder, ChangesOrder, RemovesOrder, DoesNothing, long_price, after, after_read, after_effect, effect_of}
 use Rattle.pitch_model.specs.declared.order_change.OrderChange.TheVariants.{Reduced, Modified}
-use Rattle.pitch_model.specs.Widths.{FitsWire}
+use Rattle.pitch_model.specs.layers.Widths.{FitsWire}
 use Rattle.pitch_model.proofs.Images.{add_message_adds, add_message_reads}
 use Rattle.pitch_text.specs.declared.command.Command.{Command}
 use Rattle.pitch_text.specs.declared.command.Command.TheVariants as commands

@@ -1,11 +1,10 @@
 pub mod Causes
-pub mod Coding
 pub mod Commands
 pub mod Losses
 pub mod Plan
 pub mod Planned
 pub mod Refusals
 pub mod Standing
-pub mod Taking
 pub mod Stands
 pub mod Waiting
+pub mod layers

@@ -12,11 +12,11 @@ use Rattle.session_ends.proofs.Runs.{rises_to, rises_nowhere}
 use Rattle.grp_session.specs.Budget.{Counts, Counted, Spent}
 use Rattle.grp_session.specs.Budget as budget
 use Rattle.grp_session.specs.Serving.{Source, proxy_answer}
-use Rattle.grp_session.specs.Feeding.{Answered, ProxyFeeds, StoreHasOneView}
+use Rattle.grp_session.specs.layers.Feeding.{Answered, ProxyFeeds, StoreHasOneView}
 use Rattle.spin_server.specs.Served.{Served}
 use Rattle.spin_server.specs.Looking.{ServedLater}
 use Rattle.spin_server.specs.Serving.{Serving, SpinStands, spin_sends}
-use Rattle.spin_server.specs.Feeding.{SpinFeeds}
+use Rattle.spin_server.specs.layers.Feeding.{SpinFeeds}
 use Rattle.spin_server.specs.Shelves.{Shelf}
 use Rattle.spin_server.specs.ShelfViews.{ShelfShows}
 use Rattle.spin_server.proofs.Serves.{later_order}

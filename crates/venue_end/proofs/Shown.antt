@@ -17,7 +17,7 @@ use Rattle.spin_server.specs.Served.{Served}
 use Rattle.spin_path.specs.Paths.{IsShown, MayServe}
 use Rattle.unit_market.specs.Views.{image_view}
 use Rattle.venue_end.specs.Came.{VenueCame, VenueState, Commanded, Flushed, Beaten, Advertised, ProxyMade, ProxyTook, ProxyPut, ProxyCut, SpinMade, SpinTook, SpinPumped, SpinPut, SpinCut, Second, AllCut, commanded_on, spin_fed, venue_after, venue_step}
-use Rattle.venue_end.specs.Laws.{IsShownTo, ImagesAreTheVenues}
+use Rattle.venue_end.specs.layers.Laws.{IsShownTo, ImagesAreTheVenues}
 use Rattle.venue_end.specs.Servers.{spin_says}
 use Rattle.venue_end.specs.Sessions.{Session, at_session, without, with_new, new_session, happens_at, puts}
 use Rattle.venue_end.specs.declared.setup.VenueSetup.{VenueSetup}

@@ -3,4 +3,4 @@ pub mod Servers
 pub mod Came
 pub mod Stands
 pub mod Feeding
-pub mod Laws
+pub mod layers

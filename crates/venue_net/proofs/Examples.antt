@@ -1,11 +1,12 @@
 -- Worked examples of what a script answers.
 use Rattle.std.proofs.Common.{◌≡◌, true, false, [], ◌∷◌, Some, refl}
 use Rattle.venue_net.specs.VenueCalls.{Accept, Wait, AddsVenueCall, read_in}
-use Rattle.venue_net.specs.VenueScripts.{Turn, Second, Types, EndsInput, Knocks, Brings, Ends}
-use Rattle.venue_net.specs.VenueScripts.{HasRoom, venue_wait_end, after_venue_wait}
-use Rattle.venue_net.specs.VenueScripts.{typed, read_at, after_read, lets_in, after_accept}
-use Rattle.venue_net.specs.VenueScripts.{brought_to, taken_from, after_client_take}
-use Rattle.venue_net.specs.VenueScripts.{put_into, after_client_put}
+use Rattle.venue_net.specs.layers.VenueScripts.{Turn, Second, Types, EndsInput, Knocks, Brings}
+use Rattle.venue_net.specs.layers.VenueScripts.{Ends}
+use Rattle.venue_net.specs.layers.VenueScripts.{HasRoom, venue_wait_end, after_venue_wait}
+use Rattle.venue_net.specs.layers.VenueScripts.{typed, read_at, after_read, lets_in, after_accept}
+use Rattle.venue_net.specs.layers.VenueScripts.{brought_to, taken_from, after_client_take}
+use Rattle.venue_net.specs.layers.VenueScripts.{put_into, after_client_put}
 use Rattle.venue_net.specs.declared.net.InputRead.TheVariants as input
 use Rattle.live_net.specs.declared.live.WaitEnd.TheVariants as wait_end
 use Rattle.live_net.specs.declared.live.PeerTaken.TheVariants as taken

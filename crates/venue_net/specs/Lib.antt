@@ -1,2 +1,2 @@
 pub mod VenueCalls
-pub mod VenueScripts
+pub mod layers

@@ -7,11 +7,14 @@ ghost use Rattle.pitch_io.specs.Causes.{HasCause};
 ghost use Rattle.live_net.specs.LiveCalls.{PeerPutWithin, PeerTakenWithin, WaitEndFailed, taken_in};
 ghost use Rattle.venue_net.specs.VenueCalls.{Accept, Close, Put, Read, Send, Take, Wait};
 ghost use Rattle.venue_net.specs.VenueCalls.{AddsVenueCall, ReadFailed, ReadWithin, read_in};
-ghost use Rattle.venue_net.specs.VenueScripts.{IsNextVenueCall, LeavesVenueCalls, happenings_of};
-ghost use Rattle.venue_net.specs.VenueScripts.{venue_call_of, venue_wait_end, after_venue_wait};
-ghost use Rattle.venue_net.specs.VenueScripts.{typed, read_at, after_read, lets_in, after_accept};
-ghost use Rattle.venue_net.specs.VenueScripts.{brought_to, taken_from, after_client_take};
-ghost use Rattle.venue_net.specs.VenueScripts.{put_into, after_client_put};
+ghost use Rattle.venue_net.specs.layers.VenueScripts.{IsNextVenueCall, LeavesVenueCalls};
+ghost use Rattle.venue_net.specs.layers.VenueScripts.{happenings_of};
+ghost use Rattle.venue_net.specs.layers.VenueScripts.{venue_call_of, venue_wait_end};
+ghost use Rattle.venue_net.specs.layers.VenueScripts.{after_venue_wait};
+ghost use Rattle.venue_net.specs.layers.VenueScripts.{typed, read_at, after_read, lets_in};
+ghost use Rattle.venue_net.specs.layers.VenueScripts.{after_accept};
+ghost use Rattle.venue_net.specs.layers.VenueScripts.{brought_to, taken_from, after_client_take};
+ghost use Rattle.venue_net.specs.layers.VenueScripts.{put_into, after_client_put};
 
 use crate::net::{InputRead, VenueNet};
 use crate::venue_log::{KeptVenueCall, VenueLog};
@@ -39,7 +42,7 @@ pub struct MemoryVenue {
 }
 
 impl Model for MemoryVenue {
-    ghost use Rattle.venue_net.specs.VenueScripts.{ScriptedVenue, venue_calls_of};
+    ghost use Rattle.venue_net.specs.layers.VenueScripts.{ScriptedVenue, venue_calls_of};
 
     ghost Value = { ScriptedVenue };
 

@@ -2,7 +2,8 @@
 
 ghost use Rattle.std.specs.Prelude.{◌≡◌, None, false};
 ghost use Rattle.venue_net.specs.VenueCalls.{Put, Read, Send, Take};
-ghost use Rattle.venue_net.specs.VenueScripts.{LeavesVenueCalls, venue_call_of, venue_calls_of};
+ghost use Rattle.venue_net.specs.layers.VenueScripts.{LeavesVenueCalls, venue_call_of};
+ghost use Rattle.venue_net.specs.layers.VenueScripts.{venue_calls_of};
 
 use crate::net::InputRead;
 use live_net::{PeerPut, PeerTaken, WaitEnd};

@@ -3,10 +3,12 @@
 ghost use Rattle.std.specs.Prelude.{◌≡◌, ◌<◌, drop, length, min, take};
 ghost use Rattle.live_net.specs.LiveCalls.{PeerTakenWithin, taken_in};
 ghost use Rattle.venue_net.specs.VenueCalls.{ReadFailed, ReadWithin, read_in};
-ghost use Rattle.venue_net.specs.VenueScripts.{after_accept, after_client_put, after_client_take};
-ghost use Rattle.venue_net.specs.VenueScripts.{after_read, after_venue_wait, brought_to, lets_in};
-ghost use Rattle.venue_net.specs.VenueScripts.{put_into, read_at, taken_from, typed};
-ghost use Rattle.venue_net.specs.VenueScripts.{venue_wait_end};
+ghost use Rattle.venue_net.specs.layers.VenueScripts.{after_accept, after_client_put};
+ghost use Rattle.venue_net.specs.layers.VenueScripts.{after_client_take};
+ghost use Rattle.venue_net.specs.layers.VenueScripts.{after_read, after_venue_wait, brought_to};
+ghost use Rattle.venue_net.specs.layers.VenueScripts.{lets_in};
+ghost use Rattle.venue_net.specs.layers.VenueScripts.{put_into, read_at, taken_from, typed};
+ghost use Rattle.venue_net.specs.layers.VenueScripts.{venue_wait_end};
 
 use crate::net::InputRead;
 use live_net::{PeerPut, PeerTaken, WaitEnd};
@@ -42,7 +44,7 @@ pub struct VenueScript {
 
 impl Model for VenueScript {
     ghost use Rattle.std.specs.Prelude.{List};
-    ghost use Rattle.venue_net.specs.VenueScripts.{Happening, happenings_of};
+    ghost use Rattle.venue_net.specs.layers.VenueScripts.{Happening, happenings_of};
 
     ghost Value = { List Happening };
 

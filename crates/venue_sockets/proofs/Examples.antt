@@ -1,9 +1,9 @@
 -- Worked examples of what the system says of the input, of the doors of places, and of tokens.
 use Rattle.std.proofs.Common.{◌≡◌, refl}
 use Rattle.venue_net.specs.declared.net.InputRead.TheVariants as input
-use Rattle.venue_sockets.specs.Inputs.{input_gives}
-use Rattle.venue_sockets.specs.Places.{door_of}
-use Rattle.venue_sockets.specs.Tokens.{door_number, place_number}
+use Rattle.venue_sockets.specs.layers.Inputs.{input_gives}
+use Rattle.venue_sockets.specs.layers.Places.{door_of}
+use Rattle.venue_sockets.specs.layers.Tokens.{door_number, place_number}
 
 -- a read
 no_byte_is_the_end : input_gives 0 ≡ input.Ended

@@ -4,7 +4,7 @@ use Rattle.std.proofs.lemmas.List.{map-set, map-append, set_past, length-map, re
 use Rattle.std.proofs.Math.Seq.{map-set_same}
 use Rattle.std.specs.Prelude.{slice_index_or}
 use Rattle.venue_sockets.specs.declared.places.Place.{Place}
-use Rattle.venue_sockets.specs.Places.{has_client}
+use Rattle.venue_sockets.specs.layers.Places.{has_client}
 
 -- one of them is changed
 pub changed : (places : List Place) (i : ℕ) (place : Place) → map has_client (set places i place) ≡ set (map has_client places) i (has_client place)

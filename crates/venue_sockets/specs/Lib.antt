@@ -1,3 +1,1 @@
-pub mod Inputs
-pub mod Places
-pub mod Tokens
+pub mod layers

@@ -3,7 +3,7 @@
 ghost use Rattle.std.specs.Prelude.{◌≡◌, ◌<◌, length, IfOk, IfErr, Ok, Err};
 ghost use Rattle.std.specs.IoError.{error_kind};
 ghost use Rattle.venue_net.specs.VenueCalls.{ReadFailed, ReadWithin};
-ghost use Rattle.venue_sockets.specs.Inputs.{IsQuiet, input_gives};
+ghost use Rattle.venue_sockets.specs.layers.Inputs.{IsQuiet, input_gives};
 
 use line_sockets::{ask_again, register_input};
 use mio::Registry;

@@ -3,8 +3,9 @@
 ghost use Rattle.std.specs.Prelude.{◌≡◌, ◌≢◌, ◌<◌, length, set, true, false, IfOk};
 ghost use Rattle.std.specs.Prelude.{replicate};
 ghost use Rattle.live_net.specs.LiveCalls.{PeerPutWithin, PeerTakenWithin};
-ghost use Rattle.live_sockets.specs.OpenPeers.{HasConnection, stands_after_put, stands_after_take};
-ghost use Rattle.venue_sockets.specs.Places.{door_of, has_client};
+ghost use Rattle.live_sockets.specs.layers.OpenPeers.{HasConnection, stands_after_put};
+ghost use Rattle.live_sockets.specs.layers.OpenPeers.{stands_after_take};
+ghost use Rattle.venue_sockets.specs.layers.Places.{door_of, has_client};
 
 use crate::client::Client;
 use crate::doors::Doors;
@@ -132,7 +133,7 @@ pub struct Places {
 
 impl Model for Places {
     ghost use Rattle.std.specs.Prelude.{Bool, List, map};
-    ghost use Rattle.venue_sockets.specs.Places.{has_client};
+    ghost use Rattle.venue_sockets.specs.layers.Places.{has_client};
 
     ghost Value = { List Bool };
 

@@ -4,8 +4,8 @@ ghost use Rattle.std.specs.Prelude.{◌≡◌, ◌≢◌, ◌<◌, ◌*◌, None
 ghost use Rattle.std.specs.Prelude.{IfOk};
 ghost use Rattle.pitch_io.specs.Causes.{HasCause};
 ghost use Rattle.live_net.specs.LiveCalls.{PeerPutWithin, PeerTakenWithin, WaitEndFailed};
-ghost use Rattle.live_sockets.specs.OpenPeers.{HasConnection, Leaves};
-ghost use Rattle.live_sockets.specs.OpenPeers.{stands_after_put, stands_after_take};
+ghost use Rattle.live_sockets.specs.layers.OpenPeers.{HasConnection, Leaves};
+ghost use Rattle.live_sockets.specs.layers.OpenPeers.{stands_after_put, stands_after_take};
 ghost use Rattle.venue_net.specs.VenueCalls.{ReadFailed, ReadWithin};
 
 use crate::doors::Doors;
@@ -46,7 +46,7 @@ pub struct VenueSockets<R, I> {
 }
 
 impl<R, I> Model for VenueSockets<R, I> {
-    ghost use Rattle.live_sockets.specs.OpenPeers.{OpenLive};
+    ghost use Rattle.live_sockets.specs.layers.OpenPeers.{OpenLive};
 
     ghost Value = { OpenLive };
 

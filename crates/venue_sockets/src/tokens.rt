@@ -1,7 +1,7 @@
 //! The tokens by which a wait tells what may have something.
 
 ghost use Rattle.std.specs.Prelude.{◌≡◌, ◌<◌, ◌^◌, ℕ};
-ghost use Rattle.venue_sockets.specs.Tokens.{door_number, input_number, place_number};
+ghost use Rattle.venue_sockets.specs.layers.Tokens.{door_number, input_number, place_number};
 
 use line_sockets::INPUT;
 use mio::Token;

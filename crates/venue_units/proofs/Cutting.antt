@@ -12,7 +12,7 @@ use Rattle.venue_end.specs.Servers.{proxy_says, spin_says}
 use Rattle.venue_end.specs.Sessions.{Session, session_of, at_session, without, with_new, new_session, happens_at, puts}
 use Rattle.venue_end.specs.declared.setup.VenueSetup.{VenueSetup}
 use Rattle.venue_units.specs.Coming.{came_to, to_unit}
-use Rattle.venue_units.specs.Laws.{CutPlacesAreShut}
+use Rattle.venue_units.specs.layers.Laws.{CutPlacesAreShut}
 use Rattle.venue_units.specs.Places.{cause_in, cut_at, has_in, is_shut_in, is_spin, seen_of, unit_of}
 use Rattle.venue_units.proofs.Standing.{came_here}
 

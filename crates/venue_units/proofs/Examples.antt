@@ -15,7 +15,7 @@ use Rattle.session_ends.specs.Items.{stream_items}
 use Rattle.venue_end.specs.Came.{Commanded, ProxyMade, ProxyTook, ProxyPut, ProxyCut, SpinMade, SpinTook, SpinCut, SpinPumped, Second, AllCut}
 use Rattle.venue_end.specs.declared.setup.VenueSetup.{VenueSetup}
 use Rattle.venue_units.specs.Coming.{UnitCame, came_to, state_at, to_unit}
-use Rattle.venue_units.specs.Laws.{accepted_of, commands_in}
+use Rattle.venue_units.specs.layers.Laws.{accepted_of, commands_in}
 use Rattle.venue_units.specs.Places.{cut_at, has_at, is_shut_at, is_spin, made_at, put_at, took_at, unit_of, waits_at, with_pump}
 
 -- ---- Places

@@ -11,7 +11,8 @@ use Rattle.venue_core.specs.declared.error.VenueError.{VenueError}
 use Rattle.venue_end.specs.Came.{VenueCame, VenueState, Commanded, Flushed, Beaten, Advertised, ProxyMade, ProxyTook, ProxyPut, ProxyCut, SpinMade, SpinTook, SpinPumped, SpinPut, SpinCut, Second, AllCut, commanded_on, venue_after, venue_step}
 use Rattle.venue_end.specs.declared.setup.VenueSetup.{VenueSetup}
 use Rattle.venue_units.specs.Coming.{UnitCame, came_to, state_at}
-use Rattle.venue_units.specs.Laws.{MessagesAreTheCommands, MessagesGrow, PiecesStayPieces, accepted_of, commands_in}
+use Rattle.venue_units.specs.layers.Laws.{MessagesAreTheCommands, MessagesGrow, PiecesStayPieces}
+use Rattle.venue_units.specs.layers.Laws.{accepted_of, commands_in}
 
 -- ---- Exactly those that were not refused
 pub messages_are_the_commands : MessagesAreTheCommands

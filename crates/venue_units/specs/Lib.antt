@@ -1,4 +1,4 @@
 pub mod Coming
 pub mod Places
 pub mod Units
-pub mod Laws
+pub mod layers

@@ -4,7 +4,7 @@ use Rattle.std.specs.Fmt.{digits}
 use Rattle.pitch_messages.specs.Session.{session_reads}
 use Rattle.feed_lines.specs.Show.{number_field}
 use Rattle.session_ends.specs.declared.inbox.Heard.TheVariants.{BlockEnd, Message}
-use Rattle.watched_venue.specs.Asked.{asked_line, asked_lines, client_head}
+use Rattle.watched_venue.specs.layers.Asked.{asked_line, asked_lines, client_head}
 use Rattle.watched_venue.specs.declared.line.Client.{Client}
 
 -- the third client of a venue, at the proxy of unit 7 and at its Spin Server

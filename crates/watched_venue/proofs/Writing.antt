@@ -7,7 +7,7 @@ use Rattle.session_ends.specs.declared.inbox.Heard.{Heard}
 use Rattle.stream_print.specs.Putting.{PutsSome}
 use Rattle.stream_print.proofs.Flow.{grows_more, grows_none}
 use Rattle.stream_print.proofs.Printing.{prints_written, puts_longer, puts_then}
-use Rattle.watched_venue.specs.Asked.{asked_lines, item_line}
+use Rattle.watched_venue.specs.layers.Asked.{asked_lines, item_line}
 use Rattle.watched_venue.specs.declared.line.Client.{Client}
 
 -- nothing is a prefix, and was written

@@ -5,7 +5,7 @@ ghost use Rattle.std.specs.Prelude.{OnOk};
 ghost use Rattle.pitch_io.specs.Putting.{Grows};
 ghost use Rattle.stream_print.specs.Sinks.{CountsFault, PutsPrefix};
 ghost use Rattle.feed_lines.specs.Show.{number_field};
-ghost use Rattle.watched_venue.specs.Asked.{asked_line, client_head, door_name, said_line};
+ghost use Rattle.watched_venue.specs.layers.Asked.{asked_line, client_head, door_name, said_line};
 
 use feed_lines::{LINE, put_number_field};
 use pitch_fields::{put_byte, put_text};
@@ -32,7 +32,7 @@ fn door_name(spin: bool) -> &'static [u8]
 }
 
 // Writes who asks.
-#[tactic(auto, unfolding(crate::specs::Asked::client_head))]
+#[tactic(auto, unfolding(crate::specs::layers::Asked::client_head))]
 fn put_client(out: &mut [u8], at: usize, client: &Client) -> usize
     requires { at + 60 ≤ length out.old }
     ensures end { result ≤ at + 60 }
@@ -45,7 +45,7 @@ fn put_client(out: &mut [u8], at: usize, client: &Client) -> usize
 
 // Writes the line of a message that asks, at the start of the buffer; nothing for one that does
 // not.
-#[tactic(auto, unfolding(crate::specs::Asked::asked_line))]
+#[tactic(auto, unfolding(crate::specs::layers::Asked::asked_line))]
 fn put_asked(out: &mut [u8], client: &Client, message: &SessionMessage) -> usize
     requires { 200 ≤ length out.old }
     ensures end { result ≤ 200 }

@@ -4,8 +4,8 @@ ghost use Rattle.std.specs.Prelude.{◌≡◌, ◌≤◌, false, IfOk, IfSome, I
 ghost use Rattle.pitch_io.specs.Putting.{Grows};
 ghost use Rattle.stream_print.specs.Sinks.{CountsFault, PutsPrefix};
 ghost use Rattle.unit_packets.specs.Pieces.{loaded};
-ghost use Rattle.session_ends.specs.Hearing.{reader_items};
-ghost use Rattle.watched_venue.specs.Asked.{asked_lines, item_line, role_of};
+ghost use Rattle.session_ends.specs.layers.Hearing.{reader_items};
+ghost use Rattle.watched_venue.specs.layers.Asked.{asked_lines, item_line, role_of};
 
 use crate::line::{Client, write_said};
 use crate::trouble::WatchTrouble;

@@ -18,7 +18,7 @@ use Rattle.pitch_messages.specs.Writing.{written}
 use Rattle.pitch_messages.proofs.Widths.{message_raw}
 use Rattle.pitch_model.specs.Book.{book_after}
 use Rattle.pitch_model.specs.History.{Raw}
-use Rattle.pitch_model.specs.Widths.{FitsWire}
+use Rattle.pitch_model.specs.layers.Widths.{FitsWire}
 use Rattle.pitch_model.proofs.Images.{plain_is, short_is}
 use Rattle.pitch_text.specs.WellFormed.{IsCommand, IsOrder, IsOffset}
 use Rattle.pitch_text.specs.declared.command.Command.{Command}

@@ -31,7 +31,7 @@ use Rattle.world_model.proofs.HeardBlocks.{overflow_step}
 use Rattle.unit_market.specs.Markets.{MarketHas}
 use Rattle.unit_market.specs.Standing.{MarketState}
 use Rattle.world_model.specs.Stands.{WorldHas, WorldStands}
-use Rattle.world_model.specs.Steps.{Acts, Marks, Passes}
+use Rattle.world_model.specs.layers.Steps.{Acts, Marks, Passes}
 use Rattle.world_model.specs.State.{State, Connection, datagrams_on, passed_on, passed_to}
 use Rattle.world_model.specs.Verbs.{Done, done, does, state_of, commanded_on, commanded, flushed, beaten, numbered, delivered, delivered_on, rest_delivered, hears, up_to, budget_ticks}
 use Rattle.grp_session.specs.Budget as budget
@@ -47,7 +47,7 @@ use Rattle.client_links.specs.declared.spin_link.SpinPeer.{SpinPeer}
 use Rattle.world_model.specs.Connections.{HasGrp, HasSpin, journal_of}
 use Rattle.world_model.specs.declared.connection.Connection.{Connection as Joined}
 use Rattle.world_model.specs.declared.limits.Limits.{Limits}
-use Rattle.world_model.specs.Hearing.{HearsBlocks, overflow_in}
+use Rattle.world_model.specs.layers.Hearing.{HearsBlocks, overflow_in}
 use Rattle.world_model.specs.declared.passed.Passed.{Passed}
 use Rattle.pitch_io.specs.declared.line.Line.{Line}
 use Rattle.pitch_io.specs.declared.line.Line.TheVariants.{A, B, Gap}

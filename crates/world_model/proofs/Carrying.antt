@@ -14,10 +14,10 @@ use Rattle.gap_store.specs.Look.{View, Store, store_of}
 use Rattle.grp_session.specs.Budget.{Counts, Counted, Spent}
 use Rattle.grp_session.specs.Budget as budget
 use Rattle.grp_session.specs.Serving.{Source, proxy_answer}
-use Rattle.grp_session.specs.Feeding.{Answered, ProxyFeeds, StoreHasOneView}
+use Rattle.grp_session.specs.layers.Feeding.{Answered, ProxyFeeds, StoreHasOneView}
 use Rattle.client_links.specs.Linking.{LinkStands}
 use Rattle.world_model.specs.Connections.{IsPipe, IsProxy, IsConnection, HasConnection}
-use Rattle.world_model.specs.Carried.{CarriedUp}
+use Rattle.world_model.specs.layers.Carried.{CarriedUp}
 use Rattle.world_model.specs.Ends.{grp_server, grp_says}
 use Rattle.world_model.specs.State.{State, Connection, Pipe, LooksIn, waiting}
 use Rattle.world_model.specs.Verbs.{put_in, took, source_of, shut}

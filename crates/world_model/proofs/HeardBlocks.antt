@@ -15,16 +15,16 @@ use Rattle.pitch_model.specs.Image.{image}
 use Rattle.heard_items.specs.Heard.{heard_block, block_overflows}
 use Rattle.heard_items.specs.Changes.{block_change}
 use Rattle.heard_items.specs.Datagrams.{heard_blocks, block_messages}
-use Rattle.heard_items.specs.DatagramCounts.{overflows_in}
+use Rattle.heard_items.specs.layers.DatagramCounts.{overflows_in}
 use Rattle.heard_items.specs.declared.change.Change.{Change}
 use Rattle.heard_items.proofs.Datagrams.{heard_both, honest_blocks}
-use Rattle.client_core.specs.Blocks.{Carries}
+use Rattle.client_core.specs.layers.Blocks.{Carries}
 use Rattle.client_core.specs.Tracks.{Tracks, Keeps}
 use Rattle.client_core.specs.declared.client.UnitClient.{UnitClient}
 use Rattle.line_arbiter.specs.Noted.{Note, HasNoted}
 use Rattle.line_arbiter.specs.declared.arbiter.Arbiter.{Arbiter}
 use Rattle.world_model.specs.Verbs.{noted_blocks, note_of}
-use Rattle.world_model.specs.Hearing.{overflow_in, HearsBlocks}
+use Rattle.world_model.specs.layers.Hearing.{overflow_in, HearsBlocks}
 
 -- ---- One after another
 noted_append : (unit H : ℕ) (line : Line) (xs ys : List Block) (E : List Entry) (notes : List Note)

@@ -6,7 +6,7 @@ use Rattle.session_ends.specs.declared.closed.Closed.{Closed}
 use Rattle.spin_server.specs.Served.{Served}
 use Rattle.spin_server.specs.Serving.{Serving, Spin, SpinStands, spin_sends, running_spin, runs, blocks_left, spin_left, pumped}
 use Rattle.world_model.specs.Connections.{IsPipe}
-use Rattle.world_model.specs.Carried.{IsServed}
+use Rattle.world_model.specs.layers.Carried.{IsServed}
 use Rattle.world_model.specs.Ends.{spin_server}
 use Rattle.world_model.specs.State.{Connection}
 use Rattle.world_model.specs.Verbs.{put_in, pumps, pumped_times}

@@ -18,7 +18,7 @@ use Rattle.session_ends.specs.Events.{Event, Ticked}
 use Rattle.grp_session.specs.Budget.{Counts}
 use Rattle.grp_session.specs.Serving.{Source, proxy_answer}
 use Rattle.spin_server.specs.Served.{Served}
-use Rattle.client_core.specs.Items.{IsImage}
+use Rattle.client_core.specs.layers.Items.{IsImage}
 use Rattle.client_core.specs.Tracks.{Tracks, Keeps}
 use Rattle.client_core.specs.declared.client.UnitClient.{UnitClient}
 use Rattle.client_links.specs.Linking.{link_tells}
@@ -28,12 +28,12 @@ use Rattle.spin_path.proofs.Moves.{spare_is_unheard}
 use Rattle.unit_market.specs.Markets.{MarketHas}
 use Rattle.unit_market.specs.Standing.{MarketState}
 use Rattle.world_model.specs.Connections.{IsProxy, IsSpinServer, HasConnection, HasGrp, HasSpin, IsBudget, journal_of}
-use Rattle.world_model.specs.Carried.{IsGrpConnection, CarriedUp, CarriedDown}
+use Rattle.world_model.specs.layers.Carried.{IsGrpConnection, CarriedUp, CarriedDown}
 use Rattle.client_end.specs.Links.{gap_link, spin_link}
 use Rattle.world_model.specs.Ends.{grp_server, link_of}
-use Rattle.client_end.specs.Hearing.{HearsItems, IsTold}
+use Rattle.client_end.specs.layers.Hearing.{HearsItems, IsTold}
 use Rattle.world_model.specs.Stands.{WorldHas}
-use Rattle.world_model.specs.Steps.{Acts, Marks, Passes}
+use Rattle.world_model.specs.layers.Steps.{Acts, Marks, Passes}
 use Rattle.world_model.specs.State.{State, Connection, Pipe, LooksIn, connection_of, with_connection, waiting}
 use Rattle.world_model.specs.Verbs.{done, connection, shut, login_of, opened, ended, ended_where, down_of, settled, server_fed, up, up_on, link_hears, link_fed, link_ticked, down, down_on, grp_fed, carried, wanted, at_link, source_of, took, with_up, with_down, cut, cut_on}
 use Rattle.world_model.specs.Witness.{Witnessed}

@@ -18,9 +18,9 @@ use Rattle.pitch_text.specs.declared.verb.Session.TheVariants.{Spin}
 use Rattle.unit_market.specs.Markets.{KeepsShelf, MarketHas}
 use Rattle.unit_market.specs.Standing.{MarketState}
 use Rattle.world_model.specs.Connections.{HasSpin, journal_of}
-use Rattle.world_model.specs.Carried.{IsSpinConnection}
+use Rattle.world_model.specs.layers.Carried.{IsSpinConnection}
 use Rattle.world_model.specs.Stands.{WorldHas}
-use Rattle.world_model.specs.Steps.{Acts, Passes}
+use Rattle.world_model.specs.layers.Steps.{Acts, Passes}
 use Rattle.world_model.specs.State.{State, Connection, waiting}
 use Rattle.world_model.specs.Verbs.{spin_fed, advertised, at_server_of, views_of, sent_whole, pumps, took, with_up}
 use Rattle.world_model.specs.Witness.{Witnessed}

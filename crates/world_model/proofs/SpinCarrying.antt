@@ -11,7 +11,7 @@ use Rattle.session_ends.proofs.Runs.{rises_to, rises_nowhere}
 use Rattle.spin_server.specs.Served.{Served}
 use Rattle.spin_server.specs.Looking.{ServedLater}
 use Rattle.spin_server.specs.Serving.{Serving, SpinStands, spin_sends}
-use Rattle.spin_server.specs.Feeding.{SpinFeeds}
+use Rattle.spin_server.specs.layers.Feeding.{SpinFeeds}
 use Rattle.spin_server.specs.Shelves.{Shelf}
 use Rattle.spin_server.specs.ShelfViews.{ShelfShows}
 use Rattle.spin_server.proofs.Serves.{later_order}
@@ -21,7 +21,7 @@ use Rattle.unit_market.specs.Markets.{KeepsShelf}
 use Rattle.unit_market.specs.Views.{image_view}
 use Rattle.unit_market.proofs.Showing.{shows_view}
 use Rattle.world_model.specs.Connections.{IsPipe}
-use Rattle.world_model.specs.Carried.{IsServed, IsSpinConnection}
+use Rattle.world_model.specs.layers.Carried.{IsServed, IsSpinConnection}
 use Rattle.world_model.specs.Ends.{spin_server}
 use Rattle.world_model.specs.State.{State, Connection, Pipe, waiting}
 use Rattle.world_model.specs.Verbs.{put_in, took, with_up, at_server_of, pumped_times, pumps, sent_whole, views_of}

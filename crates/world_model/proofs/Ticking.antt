@@ -17,7 +17,7 @@ use Rattle.client_core.specs.Tracks.{Tracks, Keeps}
 use Rattle.client_core.specs.declared.client.UnitClient.{UnitClient}
 use Rattle.world_model.specs.Connections.{HasGrp, HasSpin}
 use Rattle.world_model.specs.Stands.{WorldHas}
-use Rattle.world_model.specs.Steps.{Acts, Passes, ClientTicks}
+use Rattle.world_model.specs.layers.Steps.{Acts, Passes, ClientTicks}
 use Rattle.world_model.specs.State.{State, Connection}
 use Rattle.world_model.specs.Verbs.{done, ticked, tick_outcome, asked_through, asked, budget_ticks, servers_tick, server_has, link_ticks, at_server_of}
 use Rattle.world_model.specs.Witness.{Witnessed}

@@ -13,7 +13,7 @@ use Rattle.spin_server.specs.Served.{Served}
 use Rattle.spin_path.specs.Paths.{Move, AreMoves, Hears, MayHear, moved, heard_all}
 use Rattle.spin_path.specs.PathLaws.{IsFeed, HasWholeImages}
 use Rattle.session_ends.specs.Closing.{Setup}
-use Rattle.client_end.specs.Hearing.{IsGapTold}
+use Rattle.client_end.specs.layers.Hearing.{IsGapTold}
 use Rattle.spin_path.proofs.Moves.{moves_stay}
 use Rattle.spin_path.proofs.Whole.{images_are_whole}
 use Rattle.world_model.specs.Ends.{spin_server}

@@ -5,7 +5,5 @@ pub mod Printed
 pub mod Witness
 pub mod Sound
 pub mod Connections
-pub mod Carried
-pub mod Hearing
 pub mod Stands
-pub mod Steps
+pub mod layers

@@ -9,7 +9,7 @@ ghost use Rattle.session_ends.specs.Events.{Event, Fed, Ticked};
 ghost use Rattle.client_links.specs.Linking.{NoLookup, link_tells};
 ghost use Rattle.client_links.specs.Telling.{without_spare};
 ghost use Rattle.world_model.specs.Connections.{IsConnection, HasConnection};
-ghost use Rattle.world_model.specs.Carried.{CarriedDown};
+ghost use Rattle.world_model.specs.layers.Carried.{CarriedDown};
 ghost use Rattle.world_model.specs.Ends.{link_of, server_says};
 ghost use Rattle.world_model.specs.State.{LooksIn, waiting};
 ghost use Rattle.world_model.specs.State.{Connection as ConnectionSaid};

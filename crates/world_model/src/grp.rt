@@ -9,7 +9,7 @@ ghost use Rattle.session_ends.specs.Events.{Asked};
 ghost use Rattle.grp_session.specs.Serving.{Source};
 ghost use Rattle.unit_market.specs.Markets.{MarketHas};
 ghost use Rattle.world_model.specs.Connections.{IsProxy, HasGrp, IsBudget, journal_of};
-ghost use Rattle.world_model.specs.Carried.{IsGrpConnection, CarriedUp};
+ghost use Rattle.world_model.specs.layers.Carried.{IsGrpConnection, CarriedUp};
 ghost use Rattle.client_end.specs.Links.{gap_link};
 ghost use Rattle.world_model.specs.Ends.{the_account};
 ghost use Rattle.world_model.specs.State.{State, Connection as ConnectionSaid};

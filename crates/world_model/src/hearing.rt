@@ -5,7 +5,7 @@ ghost use Rattle.std.specs.List.{flat_map};
 ghost use Rattle.unit_packets.specs.Cutting.{blocks_of};
 ghost use Rattle.heard_items.specs.Datagrams.{block_messages};
 ghost use Rattle.unit_packets.specs.Packing.{bytes_in};
-ghost use Rattle.world_model.specs.Hearing.{HearsBlocks};
+ghost use Rattle.world_model.specs.layers.Hearing.{HearsBlocks};
 
 use client_core::UnitClient;
 use line_arbiter::Arbiter;

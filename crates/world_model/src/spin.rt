@@ -8,7 +8,7 @@ ghost use Rattle.session_ends.specs.Events.{Fed, Asked, Told};
 ghost use Rattle.spin_server.specs.Served.{Served};
 ghost use Rattle.unit_market.specs.Markets.{KeepsShelf};
 ghost use Rattle.world_model.specs.Connections.{IsSpinServer, HasSpin};
-ghost use Rattle.world_model.specs.Carried.{IsSpinConnection, IsServed};
+ghost use Rattle.world_model.specs.layers.Carried.{IsSpinConnection, IsServed};
 ghost use Rattle.client_end.specs.Links.{spin_link};
 ghost use Rattle.world_model.specs.State.{State, Connection as ConnectionSaid, waiting};
 ghost use Rattle.world_model.specs.Verbs.{connection, login_of, at_server_of, at_link, asked};

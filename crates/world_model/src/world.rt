@@ -77,8 +77,8 @@ impl World {
     ghost use Rattle.std.specs.Option.{option_map};
     ghost use Rattle.spin_path.specs.PathLaws.{HasWholeImages};
     ghost use Rattle.world_model.specs.Stands.{WorldHas, WorldStands};
-    ghost use Rattle.world_model.specs.Steps.{AreLimits, Acts, Passes};
-    ghost use Rattle.world_model.specs.Steps.{ClientTicks, has_failed, waits_up, waits_down};
+    ghost use Rattle.world_model.specs.layers.Steps.{AreLimits, Acts, Passes};
+    ghost use Rattle.world_model.specs.layers.Steps.{ClientTicks, has_failed, waits_up, waits_down};
     ghost use Rattle.session_ends.specs.Events.{Ticked};
     ghost use Rattle.world_model.specs.declared.limits.Limits.{Limits as LimitsSaid};
     ghost use Rattle.world_model.specs.Verbs.{state_of, does, set_up, commanded, flushed, beaten};

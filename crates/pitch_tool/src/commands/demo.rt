@@ -4,7 +4,7 @@ ghost use Rattle.std.specs.Prelude.{◌≡◌, ◌≢◌, Err};
 ghost use Rattle.pitch_io.specs.Causes.{HasCause};
 ghost use Rattle.stream_print.specs.Told.{told};
 ghost use Rattle.pitch_tool.specs.DemoForm.{DemoEnds};
-ghost use Rattle.pitch_tool.specs.Doing.{IsDemoCount};
+ghost use Rattle.pitch_tool.specs.layers.Doing.{IsDemoCount};
 ghost use Rattle.pitch_tool.specs.Devices.{wires};
 
 use crate::failure::Failure;

@@ -4,7 +4,7 @@ ghost use Rattle.std.specs.Prelude.{◌≡◌, ◌≢◌, Err};
 ghost use Rattle.pitch_io.specs.Causes.{HasCause};
 ghost use Rattle.stream_print.specs.Told.{told};
 ghost use Rattle.pitch_tool.specs.DrillForm.{DrillEnds};
-ghost use Rattle.pitch_tool.specs.Doing.{IsDrill};
+ghost use Rattle.pitch_tool.specs.layers.Doing.{IsDrill};
 
 use crate::failure::Failure;
 use pitch_io::{Gate, Sink};

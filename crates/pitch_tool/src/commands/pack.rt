@@ -4,7 +4,7 @@ ghost use Rattle.std.specs.Prelude.{◌≡◌, ◌≤◌, [], IfOk, IfErr, lengt
 ghost use Rattle.pitch_fields.specs.Limits.{text_limit};
 ghost use Rattle.command_feed.specs.Feed.{AppendsPacking};
 ghost use Rattle.pitch_tool.specs.TextForms.{made};
-ghost use Rattle.pitch_tool.specs.Failures.{IsUnmade};
+ghost use Rattle.pitch_tool.specs.layers.Failures.{IsUnmade};
 ghost use Rattle.pitch_tool.specs.declared.job.TextForm.TheVariants.{Pack};
 
 use crate::failure::Failure;

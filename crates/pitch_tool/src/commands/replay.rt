@@ -3,8 +3,8 @@
 ghost use Rattle.std.specs.Prelude.{◌≡◌, ◌≤◌, Ok, IfOk, IfErr, length};
 ghost use Rattle.pitch_fields.specs.Limits.{text_limit};
 ghost use Rattle.pitch_tool.specs.TextForms.{made, IsMadeOf};
-ghost use Rattle.pitch_tool.specs.Doing.{AreWorkers};
-ghost use Rattle.pitch_tool.specs.Failures.{IsUnmade};
+ghost use Rattle.pitch_tool.specs.layers.Doing.{AreWorkers};
+ghost use Rattle.pitch_tool.specs.layers.Failures.{IsUnmade};
 ghost use Rattle.pitch_tool.specs.declared.job.TextForm.TheVariants.{Replay};
 
 use crate::failure::Failure;

@@ -4,8 +4,8 @@ ghost use Rattle.std.specs.Prelude.{◌≡◌, ◌≢◌, Err};
 ghost use Rattle.pitch_io.specs.Causes.{HasCause};
 ghost use Rattle.stream_print.specs.Told.{told};
 ghost use Rattle.pitch_tool.specs.StormForm.{StormEnds};
-ghost use Rattle.pitch_tool.specs.Doing.{IsStorm};
-ghost use Rattle.pitch_tool.specs.Doing.{AreWorkers};
+ghost use Rattle.pitch_tool.specs.layers.Doing.{IsStorm};
+ghost use Rattle.pitch_tool.specs.layers.Doing.{AreWorkers};
 
 use crate::failure::Failure;
 use pitch_io::{Gate, Sink};

@@ -2,7 +2,7 @@ use Rattle.std.proofs.Common.{◌≡◌, ◌++◌}
 use Rattle.pitch_model.specs.Book.{Book, IsBook}
 use Rattle.pitch_model.specs.Levels.{level}
 use Rattle.best_quotes.specs.Leveling.{Has}
-use Rattle.best_quotes.specs.Turning.{gone}
+use Rattle.best_quotes.specs.layers.Turning.{gone}
 use Rattle.best_quotes.proofs.clearing.tell_gone.Given as goal
 
 abbrev pub invariant-loop-symbol : goal.invariant-loop-symbol

@@ -3,7 +3,7 @@ use Rattle.unit_packets.specs.Blocks.{Block}
 use Rattle.unit_packets.specs.declared.header.Header.{Header}
 use Rattle.pitch_model.specs.History.{Entry, Raw}
 use Rattle.pitch_model.specs.Honest.{Honest}
-use Rattle.client_core.specs.Blocks.{Carries}
+use Rattle.client_core.specs.layers.Blocks.{Carries}
 use Rattle.client_core.specs.Client.{KeepsRoom}
 use Rattle.client_core.specs.Tracks.{Keeps}
 use Rattle.pitch_model.proofs.Results.{on_ok_map}

@@ -5,12 +5,12 @@ use Rattle.pitch_model.specs.History.{Entry, Raw}
 use Rattle.pitch_model.specs.Honest.{Honest}
 use Rattle.pitch_model.proofs.Results.{on_ok_map}
 use Rattle.heard_items.specs.Heard.{heard_block}
-use Rattle.client_core.specs.Blocks.{Carries}
+use Rattle.client_core.specs.layers.Blocks.{Carries}
 use Rattle.pitch_model.specs.Reach.{reach}
 use Rattle.order_book.specs.Turns.{turns_of}
 use Rattle.order_book.specs.declared.turn.Turn.{Turn}
 use Rattle.client_core.specs.Client.{KeepsRoom, current_book}
-use Rattle.client_core.specs.Hearing.{OfReached}
+use Rattle.client_core.specs.layers.Hearing.{OfReached}
 use Rattle.client_core.specs.Tracks.{Keeps}
 use Rattle.best_quotes.proofs.leveled.hear_turned.Goals as goal
 

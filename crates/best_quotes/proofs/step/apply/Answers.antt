@@ -1,6 +1,6 @@
 use Rattle.std.proofs.Common.{sym, subst}
 use Rattle.pitch_model.specs.Book.{Book}
-use Rattle.best_quotes.specs.Turning.{Turns}
+use Rattle.best_quotes.specs.layers.Turning.{Turns}
 use Rattle.best_quotes.proofs.Stepping.{is_book_after}
 use Rattle.best_quotes.proofs.step.apply.Goals as goal
 

@@ -3,7 +3,7 @@ use Rattle.std.specs.Ordering.{ordering_reverse}
 use Rattle.std.specs.declared.cmp.Ordering.TheVariants.{Greater}
 use Rattle.std.specs.FinMap.{slice_cmp-IsAntisymmetric, nat_cmp-IsAntisymmetric}
 use Rattle.std.proofs.lemmas.Cmp.{nat_list_cmp_total}
-use Rattle.best_quotes.specs.Turning.{IsOf, IsOfTwo}
+use Rattle.best_quotes.specs.layers.Turning.{IsOf, IsOfTwo}
 use Rattle.best_quotes.proofs.steps.turn_both.Goals as goal
 
 pub turn_two-requires-in-Greater : goal.turn_two-requires-in-Greater

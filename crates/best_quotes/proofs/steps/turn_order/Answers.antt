@@ -1,7 +1,7 @@
 use Rattle.std.proofs.Common.{Option, None, refl, sym, subst, rules, ◌≡◌}
 use Rattle.pitch_messages.specs.declared.order.Order.{Order}
 use Rattle.best_quotes.specs.Leveling.{IsOn}
-use Rattle.best_quotes.specs.Turning.{Becomes}
+use Rattle.best_quotes.specs.layers.Turning.{Becomes}
 use Rattle.best_quotes.proofs.Turning.{turned_none}
 use Rattle.best_quotes.proofs.steps.turn_order.Goals as goal
 

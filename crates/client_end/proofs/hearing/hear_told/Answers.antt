@@ -2,7 +2,7 @@ use Rattle.std.proofs.Common.{rules, ℕ, List, length, take, ◌∷◌, [], ref
 use Rattle.std.proofs.lemmas.Option.{slice_get_read}
 use Rattle.heard_items.specs.declared.item.Item.{Item}
 use Rattle.pitch_model.proofs.Results.{on_err}
-use Rattle.client_end.specs.Hearing.{HearsItems}
+use Rattle.client_end.specs.layers.Hearing.{HearsItems}
 use Rattle.client_end.proofs.HeardItems.{hears_still, hears_then, items_more}
 use Rattle.client_end.proofs.hearing.hear_told.Goals as goal
 

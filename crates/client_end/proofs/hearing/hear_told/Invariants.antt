@@ -1,5 +1,5 @@
 use Rattle.std.proofs.Common.{take}
-use Rattle.client_end.specs.Hearing.{HearsItems}
+use Rattle.client_end.specs.layers.Hearing.{HearsItems}
 use Rattle.client_end.proofs.hearing.hear_told.Given as goal
 
 abbrev pub invariant-told : goal.invariant-told

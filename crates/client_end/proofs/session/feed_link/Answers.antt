@@ -1,7 +1,7 @@
 use Rattle.std.proofs.Common.{List, zero, subst, take}
 use Rattle.heard_items.specs.declared.item.Item.{Item}
 use Rattle.pitch_model.proofs.Results.{on_err}
-use Rattle.client_end.specs.Hearing.{HearsItems}
+use Rattle.client_end.specs.layers.Hearing.{HearsItems}
 use Rattle.client_end.specs.Stands.{HearsInPart}
 use Rattle.client_end.proofs.Told.{heard_told, heard_first}
 use Rattle.client_end.proofs.session.feed_link.Goals as goal

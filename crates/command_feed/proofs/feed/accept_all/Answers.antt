@@ -1,7 +1,7 @@
 use Rattle.std.proofs.Common.{◌≡◌, List, ap, sym, ◌∙◌}
 use Rattle.pitch_text.specs.declared.command.CommandEntry.{CommandEntry}
 use Rattle.text_lines.specs.Text.{all_of}
-use Rattle.command_feed.specs.Accepting.{with_before}
+use Rattle.command_feed.specs.layers.Accepting.{with_before}
 use Rattle.command_feed.proofs.Accepted.{takes_batch}
 use Rattle.command_feed.proofs.feed.accept_all.Goals as goal
 

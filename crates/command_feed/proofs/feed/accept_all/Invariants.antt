@@ -1,7 +1,7 @@
 use Rattle.std.proofs.Common.{◌≡◌, ℕ, List, length}
 use Rattle.text_lines.specs.Text.{all_of}
 use Rattle.venue_core.specs.Stands.{Stands}
-use Rattle.command_feed.specs.Accepting.{TakesSome}
+use Rattle.command_feed.specs.layers.Accepting.{TakesSome}
 use Rattle.command_feed.proofs.feed.accept_all.Given as goal
 
 abbrev pub invariant-batches : goal.invariant-batches

@@ -2,7 +2,7 @@ use Rattle.std.proofs.Common.{◌≡◌, ℕ, List, Result, drop}
 use Rattle.pitch_text.specs.declared.command.CommandEntry.{CommandEntry}
 use Rattle.text_lines.specs.declared.fault.TextError.{TextError}
 use Rattle.venue_core.specs.Stands.{Stands}
-use Rattle.command_feed.specs.Accepting.{TakesSome, with_before}
+use Rattle.command_feed.specs.layers.Accepting.{TakesSome, with_before}
 use Rattle.command_feed.proofs.feed.accept_entries.Given as goal
 
 abbrev pub invariant-entries : goal.invariant-entries

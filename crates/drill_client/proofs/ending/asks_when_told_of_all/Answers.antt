@@ -4,7 +4,7 @@ use Rattle.pitch_model.specs.Honest.{Honest}
 use Rattle.pitch_model.specs.Image.{image}
 use Rattle.pitch_model.specs.Status.{status_of}
 use Rattle.client_core.specs.Tracks.{Tracks}
-use Rattle.drill_client.specs.Told.{is_behind, told_all}
+use Rattle.drill_client.specs.layers.Told.{is_behind, told_all}
 use Rattle.drill_client.proofs.Ends.{told_honest, told_ask, told_below}
 use Rattle.drill_client.proofs.Closing.{at_current, at_asking}
 use Rattle.drill_client.proofs.ending.asks_when_told_of_all.Goals as goal

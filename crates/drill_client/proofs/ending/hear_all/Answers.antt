@@ -3,7 +3,7 @@ use Rattle.pitch_model.specs.History.{adds}
 use Rattle.pitch_model.specs.Honest.{Honest}
 use Rattle.pitch_model.specs.Image.{image}
 use Rattle.client_core.specs.Tracks.{Tracks}
-use Rattle.drill_client.specs.Following.{imaged_whole}
+use Rattle.drill_client.specs.layers.Following.{imaged_whole}
 use Rattle.drill_client.proofs.Ends.{whole_honest}
 use Rattle.drill_client.proofs.Closing.{at_imaged}
 use Rattle.drill_client.proofs.ending.hear_all.Goals as goal

@@ -7,7 +7,7 @@ use Rattle.unit_packets.specs.Cutting.{blocks_of}
 use Rattle.unit_packets.specs.Packing.{bytes_in}
 use Rattle.pitch_model.specs.History.{Entry}
 use Rattle.heard_items.specs.Datagrams.{IsPiece, heard_blocks}
-use Rattle.drill_client.specs.Following.{Follows, heard_datagrams}
+use Rattle.drill_client.specs.layers.Following.{Follows, heard_datagrams}
 use Rattle.drill_client.proofs.Going.{heard_one_more}
 use Rattle.drill_client.proofs.following.hear_datagrams.Goals as goal
 

@@ -3,7 +3,7 @@ use Rattle.std.specs.List.{AllByRecursion}
 use Rattle.unit_packets.specs.Packing.{bytes_in}
 use Rattle.pitch_model.specs.History.{Entry, Raw}
 use Rattle.heard_items.specs.Datagrams.{IsPiece}
-use Rattle.drill_client.specs.Following.{Follows, heard_datagrams}
+use Rattle.drill_client.specs.layers.Following.{Follows, heard_datagrams}
 use Rattle.drill_client.proofs.following.hear_datagrams.Given as goal
 
 abbrev pub invariant-sent : goal.invariant-sent

@@ -1,5 +1,5 @@
 use Rattle.pitch_model.specs.Image.{image}
-use Rattle.drill_client.specs.Following.{ImageParts}
+use Rattle.drill_client.specs.layers.Following.{ImageParts}
 use Rattle.drill_client.proofs.Going.{image_honest, image_between}
 use Rattle.drill_client.proofs.following.hear_image.Goals as goal
 

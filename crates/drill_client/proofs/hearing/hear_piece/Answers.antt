@@ -3,7 +3,7 @@ use Rattle.unit_packets.specs.Cutting.{blocks_of}
 use Rattle.pitch_model.specs.History.{Raw}
 use Rattle.heard_items.specs.Datagrams.{IsPiece, heard_blocks}
 use Rattle.venue_core.specs.Plan.{plan}
-use Rattle.drill_client.specs.Following.{Follows}
+use Rattle.drill_client.specs.layers.Following.{Follows}
 use Rattle.drill_client.proofs.hearing.hear_piece.Goals as goal
 
 pub returns : goal.returns

@@ -1,7 +1,7 @@
 use Rattle.std.proofs.Common.{◌≡◌, List, sym, subst}
 use Rattle.pitch_model.specs.History.{Raw}
 use Rattle.venue_core.specs.Plan.{plan}
-use Rattle.drill_client.specs.Following.{Follows, ImageParts, IsImageOf, imaged_whole}
+use Rattle.drill_client.specs.layers.Following.{Follows, ImageParts, IsImageOf, imaged_whole}
 use Rattle.drill_client.proofs.hearing.hear_spin_image.Goals as goal
 
 pub returns : goal.returns

@@ -3,7 +3,7 @@ use Rattle.venue_core.proofs.PlanBooks.{plan_step}
 use Rattle.pitch_model.specs.History.{Raw}
 use Rattle.unit_market.specs.Markets.{Journal, MarketHas}
 use Rattle.venue_core.specs.Commands.{raw_of}
-use Rattle.drill_client.specs.Turns.{journal_at}
+use Rattle.drill_client.specs.layers.Turns.{journal_at}
 use Rattle.drill_client.proofs.turns.accept.Goals as goal
 
 pub returns-in-Ok : goal.returns-in-Ok

@@ -2,7 +2,7 @@ use Rattle.std.proofs.Common.{◌≡◌, ◌≤◌, ◌++◌, ℕ, List, length,
 use Rattle.std.proofs.lemmas.List.{length-append}
 use Rattle.pitch_model.specs.Advertising.{with_sequence}
 use Rattle.unit_market.specs.Markets.{MarketHas}
-use Rattle.drill_client.specs.Played.{is_round}
+use Rattle.drill_client.specs.layers.Played.{is_round}
 use Rattle.drill_client.proofs.Played.{no_round, round_done, round_unheard, round_heard}
 use Rattle.drill_client.proofs.turns.advertise.Goals as goal
 

@@ -2,8 +2,8 @@ use Rattle.std.proofs.Common.{◌++◌, Option, sym, subst}
 use Rattle.pitch_model.specs.declared.ask.Ask.{Ask}
 use Rattle.unit_market.specs.Views.{image_view}
 use Rattle.unit_market.specs.Markets.{kept_view}
-use Rattle.drill_client.specs.Following.{Follows}
-use Rattle.drill_client.specs.Answered.{heard_of_ask}
+use Rattle.drill_client.specs.layers.Following.{Follows}
+use Rattle.drill_client.specs.layers.Answered.{heard_of_ask}
 use Rattle.drill_client.proofs.turns.answer.Goals as goal
 
 pub returns-in_ok-answer_ask-in-Some-clause-heard : goal.returns-in_ok-answer_ask-in-Some-clause-heard

@@ -3,7 +3,7 @@ use Rattle.std.specs.List.{AllByRecursion}
 use Rattle.drill_client.proofs.Answering.{range_pieces}
 use Rattle.heard_items.proofs.Datagrams.{pieces_more}
 use Rattle.gap_store.specs.Look.{View, look, store_of}
-use Rattle.gap_store.specs.Looking.{PacksAt}
+use Rattle.gap_store.specs.layers.Looking.{PacksAt}
 use Rattle.gap_store.specs.declared.found.Found.{Found}
 use Rattle.gap_store.specs.declared.found.Found.TheVariants.{Kept}
 use Rattle.pitch_messages.specs.Room.{Roomy}
@@ -11,7 +11,7 @@ use Rattle.heard_items.specs.Datagrams.{IsPiece}
 use Rattle.unit_market.specs.Markets.{kept_view}
 use Rattle.unit_market.specs.Standing.{MarketState}
 use Rattle.unit_packets.specs.Packing.{bytes_in}
-use Rattle.drill_client.specs.Answered.{is_found}
+use Rattle.drill_client.specs.layers.Answered.{is_found}
 use Rattle.drill_client.proofs.Answered.{range_kept, range_gone, range_from_none, range_of_none, range_packed, kept_is, heard_range, heard_refusal}
 use Rattle.drill_client.proofs.turns.answer_gap.Goals as goal
 

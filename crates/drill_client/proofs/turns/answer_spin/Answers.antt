@@ -6,8 +6,8 @@ use Rattle.spin_server.specs.Served.{Served}
 use Rattle.spin_server.specs.ShelfViews.{seen_of}
 use Rattle.unit_market.specs.Standing.{MarketState}
 use Rattle.unit_market.proofs.Having.{seen_is}
-use Rattle.drill_client.specs.Answered.{heard_of_spin}
-use Rattle.drill_client.specs.Following.{Follows, IsImageOf}
+use Rattle.drill_client.specs.layers.Answered.{heard_of_spin}
+use Rattle.drill_client.specs.layers.Following.{Follows, IsImageOf}
 use Rattle.drill_client.proofs.Answered.{heard_image, heard_no_image}
 use Rattle.drill_client.proofs.Answering.{image_is, image_there, image_not_there, image_of_more, seen_answer, seen_within}
 use Rattle.drill_client.proofs.turns.answer_spin.Goals as goal

@@ -6,7 +6,7 @@ use Rattle.pitch_model.specs.History.{Raw}
 use Rattle.spin_server.specs.Served.{is_served}
 use Rattle.spin_server.specs.ShelfViews.{seen_of}
 use Rattle.unit_market.specs.Standing.{MarketState}
-use Rattle.drill_client.specs.Following.{IsImageOf}
+use Rattle.drill_client.specs.layers.Following.{IsImageOf}
 use Rattle.drill_client.proofs.Answering.{image_is, served_is_there, newest_there, seen_answer, seen_within}
 use Rattle.drill_client.proofs.turns.append_last.Goals as goal
 

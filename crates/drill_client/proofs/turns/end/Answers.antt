@@ -1,9 +1,9 @@
 use Rattle.std.proofs.Common.{◌≡◌, ℕ, List, length, subst}
 use Rattle.pitch_model.specs.History.{Raw}
 use Rattle.venue_core.specs.Plan.{plan}
-use Rattle.drill_client.specs.Following.{IsImageOf}
-use Rattle.drill_client.specs.Played.{plain_history}
-use Rattle.drill_client.specs.Turns.{journal_at}
+use Rattle.drill_client.specs.layers.Following.{IsImageOf}
+use Rattle.drill_client.specs.layers.Played.{plain_history}
+use Rattle.drill_client.specs.layers.Turns.{journal_at}
 use Rattle.drill_client.proofs.turns.end.Goals as goal
 
 pub returns : goal.returns

@@ -4,7 +4,7 @@ use Rattle.pitch_model.specs.History.{Entry, Raw}
 use Rattle.unit_market.specs.Views.{image_view}
 use Rattle.unit_market.specs.Markets.{kept_view}
 use Rattle.unit_packets.specs.Packing.{bytes_in}
-use Rattle.drill_client.specs.Following.{Follows, heard_datagrams}
+use Rattle.drill_client.specs.layers.Following.{Follows, heard_datagrams}
 use Rattle.drill_client.proofs.Answered.{counted, heard_copy}
 use Rattle.drill_client.proofs.turns.hear_copy.Goals as goal
 

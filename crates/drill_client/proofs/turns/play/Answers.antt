@@ -9,10 +9,10 @@ use Rattle.unit_packets.specs.Packing.{bytes_in}
 use Rattle.venue_core.specs.Losses.{is_lost}
 use Rattle.venue_core.specs.Plan.{plan}
 use Rattle.venue_core.proofs.PlanBooks.{plan_length}
-use Rattle.drill_client.specs.Following.{Follows}
-use Rattle.drill_client.specs.Answered.{heard_after_copy}
-use Rattle.drill_client.specs.Played.{command_datagrams, heard_on_line, heard_of_command}
-use Rattle.drill_client.specs.Turns.{journal_at}
+use Rattle.drill_client.specs.layers.Following.{Follows}
+use Rattle.drill_client.specs.layers.Answered.{heard_after_copy}
+use Rattle.drill_client.specs.layers.Played.{command_datagrams, heard_on_line, heard_of_command}
+use Rattle.drill_client.specs.layers.Turns.{journal_at}
 use Rattle.drill_client.proofs.Played.{on_line, rounds_next}
 use Rattle.drill_client.proofs.Playing.{plan_grows}
 use Rattle.drill_client.proofs.turns.play.Goals as goal

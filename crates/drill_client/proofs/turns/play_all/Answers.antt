@@ -4,9 +4,9 @@ use Rattle.pitch_model.specs.History.{Entry, Raw}
 use Rattle.unit_market.specs.Markets.{MarketHas}
 use Rattle.unit_market.specs.Views.{new_journal}
 use Rattle.venue_core.specs.Plan.{plan}
-use Rattle.drill_client.specs.Following.{Follows}
-use Rattle.drill_client.specs.Played.{plain_history}
-use Rattle.drill_client.specs.Turns.{journal_at, HasPlayed}
+use Rattle.drill_client.specs.layers.Following.{Follows}
+use Rattle.drill_client.specs.layers.Played.{plain_history}
+use Rattle.drill_client.specs.layers.Turns.{journal_at, HasPlayed}
 use Rattle.drill_client.proofs.Played.{rounds_begin, count_begins, count_next, history_begins, history_next}
 use Rattle.drill_client.proofs.turns.play_all.Goals as goal
 

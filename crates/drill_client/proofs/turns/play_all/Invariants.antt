@@ -1,8 +1,8 @@
 use Rattle.std.proofs.Common.{◌≡◌}
 use Rattle.venue_core.specs.Plan.{plan}
-use Rattle.drill_client.specs.Following.{Follows}
-use Rattle.drill_client.specs.Played.{counted_through, plain_history}
-use Rattle.drill_client.specs.Turns.{HasPlayed}
+use Rattle.drill_client.specs.layers.Following.{Follows}
+use Rattle.drill_client.specs.layers.Played.{counted_through, plain_history}
+use Rattle.drill_client.specs.layers.Turns.{HasPlayed}
 use Rattle.drill_client.proofs.turns.play_all.Given as goal
 
 abbrev pub invariant-commands : goal.invariant-commands

@@ -5,7 +5,7 @@ use Rattle.heard_items.specs.Datagrams.{IsPiece}
 use Rattle.unit_market.specs.Markets.{MarketHas, Journal}
 use Rattle.unit_packets.specs.Packing.{bytes_in, packed}
 use Rattle.venue_core.specs.Plan.{plan}
-use Rattle.drill_client.specs.Turns.{journal_at}
+use Rattle.drill_client.specs.layers.Turns.{journal_at}
 use Rattle.drill_client.proofs.Playing.{packed_one}
 use Rattle.drill_client.proofs.turns.send.Goals as goal
 

@@ -1,7 +1,7 @@
 use Rattle.std.proofs.Common.{Result, subst, arith}
 use Rattle.pitch_messages.specs.declared.message.Message.{Message}
 use Rattle.pitch_messages.specs.declared.message.ReadError.{ReadError}
-use Rattle.feed_lines.specs.Puts.{Puts}
+use Rattle.feed_lines.specs.layers.Puts.{Puts}
 use Rattle.feed_lines.specs.Show.{said_texts}
 use Rattle.feed_lines.proofs.Putting.{as_one}
 use Rattle.feed_lines.proofs.messages.put_as.Goals as goal

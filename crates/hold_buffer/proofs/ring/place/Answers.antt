@@ -1,5 +1,5 @@
 use Rattle.std.proofs.Common.{◌≡◌, ℕ, arith, ap, sym, subst}
-use Rattle.hold_buffer.specs.Places.{IsGap}
+use Rattle.hold_buffer.specs.layers.Places.{IsGap}
 use Rattle.hold_buffer.proofs.Rings.{back_gap}
 use Rattle.hold_buffer.proofs.ring.place.Goals as goal
 use Rattle.hold_buffer.proofs.ring.place.Goals.{in_default-via-in-Some+else-sequence-last, in_default-via-in_default}

@@ -1,6 +1,6 @@
 use Rattle.std.proofs.Common.{rules, ◌≡◌, ap, sym, ◌∙◌, length, arith, ◌-◌, ◌==◌, true, false, ◌⊎◌, inl, inr}
 use Rattle.unit_packets.proofs.Cuts.{rest_short}
-use Rattle.line_arbiter.specs.Delivered.{fault_on}
+use Rattle.line_arbiter.specs.layers.Delivered.{fault_on}
 use Rattle.line_arbiter.proofs.Delivering.{fault_by}
 use Rattle.line_arbiter.proofs.arbiter.fault_of.Goals.{else-is_empty-via-then-is_empty+else-not-is_empty, else-is_empty-via-else-is_empty}
 use Rattle.line_arbiter.proofs.arbiter.fault_of.Goals as goal

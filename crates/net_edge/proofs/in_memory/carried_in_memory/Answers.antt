@@ -1,6 +1,6 @@
 use Rattle.std.proofs.Common.{List, Option, subst}
 use Rattle.pitch_io.specs.Nets.{Call}
-use Rattle.pitch_io.specs.MemoryNets.{CarriesAll, CameInOrder}
+use Rattle.pitch_io.specs.layers.MemoryNets.{CarriesAll, CameInOrder}
 use Rattle.net_edge.proofs.InMemory.{run_carried}
 use Rattle.net_edge.proofs.in_memory.carried_in_memory.Goals as goal
 

@@ -3,7 +3,7 @@ use Rattle.unit_packets.specs.Blocks.{Block}
 use Rattle.unit_packets.proofs.Walking.{taken_all}
 use Rattle.heard_items.specs.Datagrams.{heard_blocks}
 use Rattle.net_edge.specs.Acting.{ours}
-use Rattle.net_edge.specs.Playing.{ClientHas}
+use Rattle.net_edge.specs.layers.Playing.{ClientHas}
 use Rattle.net_edge.proofs.Hearing.{ours_more}
 use Rattle.net_edge.proofs.lines.hear_datagram.Goals as goal
 

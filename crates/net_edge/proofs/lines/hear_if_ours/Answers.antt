@@ -1,6 +1,6 @@
 use Rattle.std.proofs.Common.{sym, ap}
 use Rattle.unit_packets.specs.declared.header.Header.{Header}
-use Rattle.client_core.specs.Blocks.{Carries}
+use Rattle.client_core.specs.layers.Blocks.{Carries}
 use Rattle.net_edge.proofs.Hearing.{hears_ours}
 use Rattle.net_edge.proofs.lines.hear_if_ours.Goals as goal
 

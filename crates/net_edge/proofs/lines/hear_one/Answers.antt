@@ -1,6 +1,6 @@
 use Rattle.std.proofs.Common.{ℕ, List, length, take}
 use Rattle.pitch_model.proofs.Results.{at_exit}
-use Rattle.pitch_io.specs.Coming.{came}
+use Rattle.pitch_io.specs.layers.Coming.{came}
 use Rattle.pitch_io.specs.declared.net.NetTaken.TheVariants.{Got}
 use Rattle.net_edge.proofs.Hearing.{not_failed, hears_on, heard_nothing_of, line_stops, line_fails}
 use Rattle.net_edge.proofs.lines.hear_one.Goals as goal

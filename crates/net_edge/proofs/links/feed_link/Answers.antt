@@ -3,8 +3,8 @@ use Rattle.heard_items.specs.declared.item.Item.{Item}
 use Rattle.session_ends.specs.Events.{Fed}
 use Rattle.client_links.specs.Linking.{NoLookup, link_tells}
 use Rattle.spin_path.specs.Paths.{heard_all}
-use Rattle.client_end.specs.Hearing.{HearsItems}
-use Rattle.net_edge.specs.Sessions.{session_setup}
+use Rattle.client_end.specs.layers.Hearing.{HearsItems}
+use Rattle.net_edge.specs.layers.Sessions.{session_setup}
 use Rattle.net_edge.proofs.Linking.{heard_told, linked, tells_settled}
 use Rattle.net_edge.proofs.links.feed_link.Goals as goal
 

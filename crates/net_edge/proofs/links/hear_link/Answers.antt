@@ -1,6 +1,6 @@
 use Rattle.std.proofs.Common.{Bool, false, [], ◌∷◌, ap, refl, ◌∙◌, subst, arith, inl, inr}
 use Rattle.pitch_model.proofs.Results.{at_exit}
-use Rattle.net_edge.specs.Playing.{HearsLink}
+use Rattle.net_edge.specs.layers.Playing.{HearsLink}
 use Rattle.net_edge.specs.Scene.{is_got}
 use Rattle.net_edge.proofs.Grouping.{gots_none, call_more, take_last, takes_full, nothing, open_by}
 use Rattle.net_edge.proofs.links.hear_link.Goals as goal

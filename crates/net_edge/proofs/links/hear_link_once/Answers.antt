@@ -1,7 +1,7 @@
 use Rattle.std.proofs.Common.{◌∷◌, true, false, length, take, sym, subst, []}
 use Rattle.pitch_model.proofs.Results.{at_exit}
 use Rattle.pitch_io.specs.declared.net.NetTaken.{NetTaken}
-use Rattle.net_edge.specs.Playing.{HearsLink}
+use Rattle.net_edge.specs.layers.Playing.{HearsLink}
 use Rattle.net_edge.proofs.Linking.{link_got, link_quiet, link_end, link_stops, link_fails}
 use Rattle.pitch_io.specs.declared.net.NetTaken.TheVariants as taken
 use Rattle.net_edge.proofs.links.hear_link_once.Goals as goal

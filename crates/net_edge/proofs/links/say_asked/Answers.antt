@@ -1,4 +1,4 @@
-use Rattle.net_edge.specs.Sessions.{session_setup, asked_of}
+use Rattle.net_edge.specs.layers.Sessions.{session_setup, asked_of}
 use Rattle.net_edge.proofs.Saying.{link_silent, stands_so}
 use Rattle.net_edge.proofs.links.say_asked.Goals as goal
 

@@ -1,6 +1,6 @@
 use Rattle.std.proofs.Common.{Bool, true, false, ◌||◌, Option, is_some, ap, sym, ◌∙◌}
 use Rattle.session_ends.specs.declared.closed.Closed.{Closed}
-use Rattle.net_edge.specs.Playing.{closes}
+use Rattle.net_edge.specs.layers.Playing.{closes}
 use Rattle.net_edge.proofs.Linking.{settled_cut, settled_heard, settled_before}
 use Rattle.net_edge.proofs.links.settle.Goals as goal
 

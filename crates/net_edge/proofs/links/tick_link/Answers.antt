@@ -2,7 +2,7 @@ use Rattle.session_ends.specs.Events.{Ticked}
 use Rattle.pitch_model.proofs.Results.{at_exit}
 use Rattle.world_model.specs.Verbs.{at_link}
 use Rattle.net_edge.specs.Acting.{where_stands}
-use Rattle.net_edge.specs.Sessions.{session_setup}
+use Rattle.net_edge.specs.layers.Sessions.{session_setup}
 use Rattle.net_edge.proofs.Linking.{said_put}
 use Rattle.net_edge.proofs.Breaking.{stops_here}
 use Rattle.net_edge.proofs.links.tick_link.Goals as goal

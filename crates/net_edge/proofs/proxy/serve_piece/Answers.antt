@@ -7,7 +7,7 @@ use Rattle.pitch_messages.specs.Room.{Roomy}
 use Rattle.unit_packets.specs.Packing.{bytes_in}
 use Rattle.net_edge.specs.Acting.{sent_on, end_puts, taken_at}
 use Rattle.net_edge.specs.Due.{AreDuePieces}
-use Rattle.net_edge.specs.Playing.{Plays, proxy_said}
+use Rattle.net_edge.specs.layers.Playing.{Plays, proxy_said}
 use Rattle.net_edge.specs.Scene.{Scene}
 use Rattle.net_edge.proofs.Feeding.{reply_pieces}
 use Rattle.net_edge.proofs.Breaking.{breaks_here}

@@ -3,7 +3,7 @@ use Rattle.std.proofs.lemmas.List.{take_rest, take_all, length-drop}
 use Rattle.pitch_io.specs.Nets.{Put}
 use Rattle.pitch_io.specs.declared.sink.Put.TheVariants as puts
 use Rattle.net_edge.specs.Acting.{end_puts}
-use Rattle.net_edge.specs.Playing.{Plays}
+use Rattle.net_edge.specs.layers.Playing.{Plays}
 use Rattle.net_edge.proofs.Runs.{play_call, put_none, put_next}
 use Rattle.net_edge.proofs.Breaking.{breaks_by}
 use Rattle.net_edge.proofs.putting.put_whole.Goals as goal

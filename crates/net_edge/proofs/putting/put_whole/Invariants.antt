@@ -2,7 +2,7 @@ use Rattle.std.proofs.Common.{◌≡◌, ◌≤◌, ◌-◌, List, length, take}
 use Rattle.pitch_io.specs.Nets.{Call}
 use Rattle.net_edge.specs.Acting.{end_puts}
 use Rattle.net_edge.specs.Due.{Setting}
-use Rattle.net_edge.specs.Playing.{Plays}
+use Rattle.net_edge.specs.layers.Playing.{Plays}
 use Rattle.net_edge.specs.Scene.{Scene}
 use Rattle.net_edge.proofs.putting.put_whole.Given as goal
 

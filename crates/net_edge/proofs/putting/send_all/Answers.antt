@@ -7,7 +7,7 @@ use Rattle.pitch_messages.specs.Room.{Roomy}
 use Rattle.unit_packets.specs.Packing.{bytes_in}
 use Rattle.net_edge.specs.Acting.{sent_on}
 use Rattle.net_edge.specs.Due.{IsDuePiece}
-use Rattle.net_edge.specs.Playing.{Plays}
+use Rattle.net_edge.specs.layers.Playing.{Plays}
 use Rattle.net_edge.proofs.Runs.{sent_none, sent_both, sent_in_turn}
 use Rattle.net_edge.proofs.putting.send_all.Goals as goal
 

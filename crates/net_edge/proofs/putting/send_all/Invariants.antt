@@ -3,7 +3,7 @@ use Rattle.pitch_io.specs.Nets.{Call}
 use Rattle.unit_packets.specs.Packing.{bytes_in}
 use Rattle.net_edge.specs.Acting.{sent_on}
 use Rattle.net_edge.specs.Due.{Setting, AreDuePieces}
-use Rattle.net_edge.specs.Playing.{Plays}
+use Rattle.net_edge.specs.layers.Playing.{Plays}
 use Rattle.net_edge.specs.Scene.{Scene}
 use Rattle.net_edge.proofs.putting.send_all.Given as goal
 

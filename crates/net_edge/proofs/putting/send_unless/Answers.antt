@@ -1,7 +1,7 @@
 use Rattle.std.proofs.Common.{Bool, [], cond, sym, ap, ◌∙◌, subst}
 use Rattle.unit_packets.specs.Packing.{bytes_in}
 use Rattle.net_edge.specs.Acting.{sent_on}
-use Rattle.net_edge.specs.Playing.{Plays}
+use Rattle.net_edge.specs.layers.Playing.{Plays}
 use Rattle.net_edge.proofs.Runs.{sent_none}
 use Rattle.net_edge.proofs.putting.send_unless.Goals as goal
 

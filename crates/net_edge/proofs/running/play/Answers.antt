@@ -4,9 +4,9 @@ use Rattle.pitch_io.specs.Nets.{Call}
 use Rattle.net_edge.specs.Due.{Setting, setting}
 use Rattle.pitch_io.specs.declared.net.LinkEnd.TheVariants.{GrpClient, SpinClient}
 use Rattle.net_edge.specs.Demo.{BreaksDemo}
-use Rattle.net_edge.specs.Playing.{EndsHave, calls_before}
+use Rattle.net_edge.specs.layers.Playing.{EndsHave, calls_before}
 use Rattle.net_edge.specs.Scene.{first_scene, said_at}
-use Rattle.net_edge.specs.Playing.{all_put}
+use Rattle.net_edge.specs.layers.Playing.{all_put}
 use Rattle.net_edge.proofs.Ending.{demo_is}
 use Rattle.net_edge.proofs.Breaking.{breaks_here}
 use Rattle.net_edge.proofs.Sending.{broke_demo}

@@ -3,10 +3,10 @@ use Rattle.pitch_model.proofs.Results.{at_exit}
 use Rattle.net_edge.specs.Due.{Setting, setting, hold_limit}
 use Rattle.pitch_io.specs.Nets.{Call}
 use Rattle.net_edge.specs.Breaking.{Breaks}
-use Rattle.net_edge.specs.Markets.{SideAt}
-use Rattle.net_edge.specs.Playing.{DemoAt}
+use Rattle.net_edge.specs.layers.Markets.{SideAt}
+use Rattle.net_edge.specs.layers.Playing.{DemoAt}
 use Rattle.net_edge.specs.Scene.{first_scene}
-use Rattle.net_edge.specs.Playing.{all_put}
+use Rattle.net_edge.specs.layers.Playing.{all_put}
 use Rattle.net_edge.specs.Turns.{MayGoOn, client_status}
 use Rattle.net_edge.proofs.Starting.{market_first, sent_first, uncalled_first, goes_on, last_is}
 use Rattle.net_edge.proofs.Begun.{turn_breaks}

@@ -1,10 +1,10 @@
 use Rattle.std.proofs.Common.{◌≡◌, ◌+◌, ◌-◌, ◌≤◌, List, [], length}
 use Rattle.pitch_io.specs.Nets.{Call}
 use Rattle.net_edge.specs.Due.{setting}
-use Rattle.net_edge.specs.Markets.{SideAt}
-use Rattle.net_edge.specs.Playing.{DemoAt}
+use Rattle.net_edge.specs.layers.Markets.{SideAt}
+use Rattle.net_edge.specs.layers.Playing.{DemoAt}
 use Rattle.net_edge.specs.Scene.{Scene, first_scene}
-use Rattle.net_edge.specs.Playing.{all_put}
+use Rattle.net_edge.specs.layers.Playing.{all_put}
 use Rattle.net_edge.specs.Turns.{IsOver}
 use Rattle.net_edge.proofs.running.run.Given as goal
 

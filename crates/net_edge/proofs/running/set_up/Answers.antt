@@ -1,4 +1,4 @@
-use Rattle.net_edge.specs.Playing.{calls_before}
+use Rattle.net_edge.specs.layers.Playing.{calls_before}
 use Rattle.net_edge.proofs.Starting.{begun, plays_none}
 use Rattle.net_edge.proofs.Sending.{unbegun, broke_demo}
 use Rattle.net_edge.specs.Scene.{first_scene}

@@ -2,7 +2,7 @@ use Rattle.std.proofs.Common.{◌≡◌, ◌≤◌, List, [], length, false}
 use Rattle.pitch_io.specs.Nets.{Call}
 use Rattle.pitch_io.specs.declared.net.NetTaken.{NetTaken}
 use Rattle.net_edge.specs.Due.{Setting}
-use Rattle.net_edge.specs.Markets.{StillHas, SideAt}
+use Rattle.net_edge.specs.layers.Markets.{StillHas, SideAt}
 use Rattle.net_edge.specs.Scene.{Scene}
 use Rattle.net_edge.proofs.Grouping.{Gots}
 use Rattle.net_edge.proofs.server_end.serve_end.Given as goal

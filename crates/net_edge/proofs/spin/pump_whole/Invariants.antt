@@ -4,7 +4,7 @@ use Rattle.spin_server.specs.Serving.{blocks_left}
 use Rattle.world_model.specs.State.{Connection}
 use Rattle.world_model.proofs.Pumping.{Pumping}
 use Rattle.net_edge.specs.Due.{demo_unit}
-use Rattle.net_edge.specs.Playing.{SpinSays}
+use Rattle.net_edge.specs.layers.Playing.{SpinSays}
 use Rattle.net_edge.proofs.Spinning.{saying}
 use Rattle.net_edge.proofs.spin.pump_whole.Given as goal
 

@@ -2,7 +2,7 @@ use Rattle.std.proofs.Common.{List, subst}
 use Rattle.pitch_model.proofs.Results.{at_exit}
 use Rattle.pitch_io.specs.declared.net.LinkEnd.TheVariants.{SpinServer}
 use Rattle.net_edge.specs.Acting.{end_puts}
-use Rattle.net_edge.specs.Playing.{Plays}
+use Rattle.net_edge.specs.layers.Playing.{Plays}
 use Rattle.net_edge.proofs.Breaking.{stops_here}
 use Rattle.net_edge.proofs.spin.tick_spin.Goals as goal
 

@@ -1,7 +1,7 @@
 use Rattle.std.proofs.Common.{◌≡◌, ◌+◌, ◌≤◌, ◌++◌, drop, take, length}
 use Rattle.std.specs.List.{AllByRecursion}
-use Rattle.pitch_model.specs.Widths.{FitsWire}
-use Rattle.order_book.specs.Images.{adds_of}
+use Rattle.pitch_model.specs.layers.Widths.{FitsWire}
+use Rattle.order_book.specs.layers.Images.{adds_of}
 use Rattle.order_book.proofs.image.push_adds.Given as goal
 
 abbrev pub invariant-adds : goal.invariant-adds

@@ -1,6 +1,6 @@
 use Rattle.std.proofs.Common.{◌≡◌, ◌+◌, ◌≤◌, ◌++◌, drop, take, length}
 use Rattle.std.specs.List.{AllByRecursion}
-use Rattle.order_book.specs.Images.{FitsState, raws_of}
+use Rattle.order_book.specs.layers.Images.{FitsState, raws_of}
 use Rattle.order_book.proofs.image.push_statuses.Given as goal
 
 abbrev pub invariant-states : goal.invariant-states

@@ -1,6 +1,6 @@
 use Rattle.std.proofs.Common.{◌≡◌, ◌+◌, ◌*◌, ◌≤◌, length}
 use Rattle.indexmap.specs.IndexMap.{values, index_map_len}
-use Rattle.order_book.specs.Totals.{quantities}
+use Rattle.order_book.specs.layers.Totals.{quantities}
 use Rattle.order_book.proofs.totals.all_shares.Given as goal
 
 abbrev pub invariant-loop-order : goal.invariant-loop-order

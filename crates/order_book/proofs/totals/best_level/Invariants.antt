@@ -1,7 +1,7 @@
 use Rattle.std.proofs.Common.{◌≡◌, ◌+◌, ◌*◌, ◌≤◌, length, filter}
 use Rattle.std.specs.Option.{option_map_or}
 use Rattle.indexmap.specs.IndexMap.{values, index_map_len}
-use Rattle.order_book.specs.Totals.{is_on, best_level}
+use Rattle.order_book.specs.layers.Totals.{is_on, best_level}
 use Rattle.order_book.proofs.Bests.{level_from}
 use Rattle.order_book.proofs.totals.best_level.Given as goal
 

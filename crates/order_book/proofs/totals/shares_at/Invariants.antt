@@ -1,6 +1,6 @@
 use Rattle.std.proofs.Common.{◌≡◌, ◌+◌, ◌*◌, ◌≤◌, length, filter, ◌==◌}
 use Rattle.indexmap.specs.IndexMap.{values, index_map_len}
-use Rattle.order_book.specs.Totals.{quantities, is_on}
+use Rattle.order_book.specs.layers.Totals.{quantities, is_on}
 use Rattle.order_book.proofs.totals.shares_at.Given as goal
 
 abbrev pub invariant-loop-order : goal.invariant-loop-order

@@ -2,7 +2,7 @@ use Rattle.std.proofs.Common.{◌≡◌, ◌<◌, ℕ, List, length, get_or, sub
 use Rattle.pitch_messages.specs.Raw.{kind_of}
 use Rattle.pitch_messages.specs.Reading.{reads, needs_of}
 use Rattle.pitch_messages.specs.Writing.{written}
-use Rattle.pitch_messages.specs.Rewriting.{with_reserved_blank}
+use Rattle.pitch_messages.specs.layers.Rewriting.{with_reserved_blank}
 use Rattle.pitch_messages.specs.declared.message.Message.{Message}
 use Rattle.pitch_messages.specs.declared.message.ReadError.{ReadError}
 use Rattle.pitch_messages.proofs.Rewriting.{rewritten}

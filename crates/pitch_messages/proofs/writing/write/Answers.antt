@@ -3,7 +3,7 @@ use Rattle.pitch_messages.specs.declared.message.Message.{Message}
 use Rattle.pitch_messages.specs.Reading.{reads, row_of}
 use Rattle.pitch_messages.specs.Raw.{kind_of}
 use Rattle.pitch_messages.specs.Writing.{written}
-use Rattle.pitch_messages.specs.Rewriting.{HasItsVariant}
+use Rattle.pitch_messages.specs.layers.Rewriting.{HasItsVariant}
 use Rattle.pitch_messages.proofs.Rows.{unsaid}
 use Rattle.pitch_messages.proofs.writing.write.Goals as goal
 

@@ -1,5 +1,5 @@
 use Rattle.std.proofs.Common.{subst}
-use Rattle.pitch_tool.specs.Doing.{CanDo}
+use Rattle.pitch_tool.specs.layers.Doing.{CanDo}
 use Rattle.pitch_tool.proofs.commands.do_job.Goals as goal
 
 pub print_stream-requires-clause-hold : goal.print_stream-requires-clause-hold

@@ -4,11 +4,11 @@ use Rattle.unit_packets.specs.Blocks.{Block}
 use Rattle.unit_packets.specs.declared.header.Header.{Header}
 use Rattle.pitch_model.specs.Honest.{Honest}
 use Rattle.pitch_model.specs.Image.{image}
-use Rattle.client_core.specs.Blocks.{Carries}
+use Rattle.client_core.specs.layers.Blocks.{Carries}
 use Rattle.client_core.specs.Tracks.{Tracks}
 use Rattle.client_core.specs.Client.{current_book}
 use Rattle.client_core.proofs.Outcomes.{on_ok, if_ok}
-use Rattle.relay_unit.specs.Sending.{SendsOn}
+use Rattle.relay_unit.specs.layers.Sending.{SendsOn}
 use Rattle.relay_unit.proofs.Following.{applied_sends}
 use Rattle.relay_unit.proofs.Growing.{sends_block}
 use Rattle.relay_unit.proofs.Merging.{merged_block, merged_block_change}

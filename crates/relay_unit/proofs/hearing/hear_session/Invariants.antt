@@ -2,7 +2,7 @@ use Rattle.std.proofs.Common.{ℕ, ◌+◌, ◌≤◌, List, length}
 use Rattle.pitch_model.specs.History.{Entry}
 use Rattle.client_core.specs.Tracks.{Tracks}
 use Rattle.client_core.specs.Weight.{weight}
-use Rattle.relay_unit.specs.Sending.{SendsAny}
+use Rattle.relay_unit.specs.layers.Sending.{SendsAny}
 use Rattle.relay_unit.proofs.Along.{Along}
 use Rattle.relay_unit.proofs.hearing.hear_session.Given as goal
 

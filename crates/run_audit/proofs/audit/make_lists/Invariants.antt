@@ -1,6 +1,6 @@
 use Rattle.std.proofs.Common.{◌≡◌, ℕ, ◌-◌, length}
-use Rattle.run_audit.specs.Finding.{messages_of}
-use Rattle.run_audit.specs.Following.{AreShort}
+use Rattle.run_audit.specs.layers.Finding.{messages_of}
+use Rattle.run_audit.specs.layers.Following.{AreShort}
 use Rattle.run_audit.proofs.audit.make_lists.Given as goal
 
 abbrev pub invariant-lists : goal.invariant-lists

@@ -1,7 +1,7 @@
 use Rattle.std.proofs.Common.{rules}
 use Rattle.std.proofs.lemmas.List.Sorted.{All-permutation}
-use Rattle.run_audit.specs.Backward.{IsAgreed}
-use Rattle.run_audit.specs.Finding.{messages_of}
+use Rattle.run_audit.specs.layers.Backward.{IsAgreed}
+use Rattle.run_audit.specs.layers.Finding.{messages_of}
 use Rattle.run_audit.specs.Report.{lines_of}
 use Rattle.run_audit.proofs.Agreeing.{agreed_more, agreed_one, asked_at, asked_few}
 use Rattle.run_audit.proofs.backward.agreed_backward.Goals as goal

@@ -1,8 +1,8 @@
 use Rattle.std.specs.List.{All}
-use Rattle.run_audit.specs.Backward.{IsAgreed}
-use Rattle.run_audit.specs.Finding.{messages_of}
+use Rattle.run_audit.specs.layers.Backward.{IsAgreed}
+use Rattle.run_audit.specs.layers.Finding.{messages_of}
 use Rattle.run_audit.specs.Report.{lines_of}
-use Rattle.run_audit.specs.Walking.{AreAt}
+use Rattle.run_audit.specs.layers.Walking.{AreAt}
 use Rattle.run_audit.proofs.backward.agreed_backward.Given as goal
 
 abbrev pub invariant-books : goal.invariant-books

@@ -1,7 +1,7 @@
 use Rattle.std.proofs.Common.{arith, refl, slice_set}
 use Rattle.feed_lines.specs.BookText.{book_text}
-use Rattle.run_audit.specs.Finding.{messages_of}
-use Rattle.run_audit.specs.Walking.{AreAt}
+use Rattle.run_audit.specs.layers.Finding.{messages_of}
+use Rattle.run_audit.specs.layers.Walking.{AreAt}
 use Rattle.run_audit.proofs.Agreeing.{on_ok, stands_there}
 use Rattle.run_audit.proofs.Walking.{at_here, at_length, at_put, book_there, log_at, walk_at}
 use Rattle.run_audit.proofs.backward.agrees.Goals as goal

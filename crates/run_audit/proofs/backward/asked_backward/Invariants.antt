@@ -1,6 +1,6 @@
 use Rattle.std.proofs.Common.{◌≡◌, ◌+◌, ◌-◌, ◌≤◌, drop, length}
 use Rattle.std.specs.List.{All}
-use Rattle.run_audit.specs.Backward.{IsAsked}
+use Rattle.run_audit.specs.layers.Backward.{IsAsked}
 use Rattle.run_audit.specs.Report.{lines_of}
 use Rattle.run_audit.proofs.backward.asked_backward.Given as goal
 

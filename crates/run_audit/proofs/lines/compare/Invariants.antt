@@ -1,5 +1,5 @@
 use Rattle.std.proofs.Common.{length}
-use Rattle.run_audit.specs.Lines.{Passes}
+use Rattle.run_audit.specs.layers.Lines.{Passes}
 use Rattle.run_audit.proofs.lines.compare.Given as goal
 
 abbrev pub invariant-lines : goal.invariant-lines

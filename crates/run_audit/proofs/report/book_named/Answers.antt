@@ -1,5 +1,5 @@
 use Rattle.run_audit.proofs.Reporting.{found}
-use Rattle.run_audit.specs.Finding.{messages_of}
+use Rattle.run_audit.specs.layers.Finding.{messages_of}
 use Rattle.run_audit.proofs.report.book_named.Goals as goal
 
 pub returns-in-Some-clause-finds : goal.returns-in-Some-clause-finds

@@ -1,4 +1,4 @@
-use Rattle.run_audit.specs.Finding.{messages_of}
+use Rattle.run_audit.specs.layers.Finding.{messages_of}
 use Rattle.run_audit.proofs.Agreeing.{judged_before, judged_named}
 use Rattle.run_audit.proofs.Deciding.{names}
 use Rattle.run_audit.proofs.report.judge_book.Goals as goal

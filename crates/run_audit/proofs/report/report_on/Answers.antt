@@ -1,7 +1,7 @@
 use Rattle.std.proofs.Common.{ap, arith, Bor, List, ℕ, length, ◌+◌, subst}
 use Rattle.std.specs.List.{Contains}
 use Rattle.run_audit.specs.declared.backward.AgreedBook.{AgreedBook}
-use Rattle.run_audit.specs.Finding.{Reads, messages_of}
+use Rattle.run_audit.specs.layers.Finding.{Reads, messages_of}
 use Rattle.run_audit.specs.Report.{lines_of}
 use Rattle.run_audit.proofs.Agreeing.{stands_first, stands_some, stands_within}
 use Rattle.run_audit.proofs.Deciding.{differs_few, few_books, few_left, first_of_book, judged_differs, judged_same, later_of_book, no_front, not_of_book, passed_line, says_no, says_yes, wrong_book}

@@ -1,7 +1,7 @@
 use Rattle.std.proofs.Common.{length}
-use Rattle.run_audit.specs.Finding.{Reads, messages_of}
+use Rattle.run_audit.specs.layers.Finding.{Reads, messages_of}
 use Rattle.run_audit.specs.Report.{lines_of}
-use Rattle.run_audit.specs.Walking.{AreAt}
+use Rattle.run_audit.specs.layers.Walking.{AreAt}
 use Rattle.run_audit.proofs.report.report_on.Given as goal
 
 abbrev pub invariant-parts : goal.invariant-parts

@@ -1,5 +1,5 @@
 use Rattle.std.proofs.Common.{rules, refl, sym, ◌∙◌, subst, arith, ◌≤◌}
-use Rattle.run_audit.specs.Walking.{IsAt}
+use Rattle.run_audit.specs.layers.Walking.{IsAt}
 use Rattle.run_audit.proofs.Walking.{at_more, not_done}
 use Rattle.run_audit.proofs.walk.go_to.Goals as goal
 use Rattle.run_audit.proofs.walk.go_to.Goals.{then-n-walk, else-n-walk}

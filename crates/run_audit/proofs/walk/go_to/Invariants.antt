@@ -1,5 +1,5 @@
 use Rattle.std.proofs.Common.{◌≤◌, ◌-◌}
-use Rattle.run_audit.specs.Walking.{IsAt}
+use Rattle.run_audit.specs.layers.Walking.{IsAt}
 use Rattle.run_audit.proofs.walk.go_to.Given as goal
 
 abbrev pub invariant-steps : goal.invariant-steps

@@ -1,5 +1,5 @@
 use Rattle.std.proofs.Common.{take}
-use Rattle.run_audit.specs.Walking.{AreAt}
+use Rattle.run_audit.specs.layers.Walking.{AreAt}
 use Rattle.run_audit.proofs.walk.starts.Given as goal
 
 abbrev pub invariant-loop-log : goal.invariant-loop-log

@@ -1,9 +1,9 @@
 use Rattle.std.proofs.Common.{◌≡◌, ℕ, List, Option, Vec, Global, ◌++◌, reverse, ap, sym, ◌∙◌, subst}
 use Rattle.world_model.specs.declared.world.World.{World}
 use Rattle.schedule_replay.specs.Replay.{replay_text, replay_on}
-use Rattle.schedule_replay.specs.Runs.{AreFilled, AreRunsAt, pieces_at, put_together}
-use Rattle.schedule_replay.specs.Stretches.{AreListed, IsCut, list_at, parts_of}
-use Rattle.schedule_replay.specs.Places.{worlds_in}
+use Rattle.schedule_replay.specs.layers.Runs.{AreFilled, AreRunsAt, pieces_at, put_together}
+use Rattle.schedule_replay.specs.layers.Stretches.{AreListed, IsCut, list_at, parts_of}
+use Rattle.schedule_replay.specs.layers.Places.{worlds_in}
 use Rattle.schedule_replay.specs.declared.merging.Unmerged.{Unmerged}
 use Rattle.schedule_replay.specs.declared.stretches.Stretch.{Stretch}
 use Rattle.schedule_replay.proofs.Joining.{RunsApart, puts_none, runs_apart}

@@ -2,8 +2,8 @@ use Rattle.std.proofs.Common.{ℕ, List, Result, Vec, Global, slice_get}
 use Rattle.std.proofs.lemmas.Option.{IfSome_then}
 use Rattle.std.proofs.lemmas.Result.{IfOk-weaker}
 use Rattle.std.specs.List.{AllByRecursion}
-use Rattle.schedule_replay.specs.Runs.{AreRun, Ran}
-use Rattle.schedule_replay.specs.Stretches.{parts_of}
+use Rattle.schedule_replay.specs.layers.Runs.{AreRun, Ran}
+use Rattle.schedule_replay.specs.layers.Stretches.{parts_of}
 use Rattle.schedule_replay.specs.declared.units.UnitRun.{UnitRun}
 use Rattle.schedule_replay.specs.declared.unrun.CantRunApart.{CantRunApart}
 use Rattle.schedule_replay.proofs.apart.run_lists.Goals as goal

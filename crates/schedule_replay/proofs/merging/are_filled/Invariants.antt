@@ -1,6 +1,6 @@
 use Rattle.std.proofs.Common.{◌≡◌, ℕ, ◌<◌, true, length}
-use Rattle.schedule_replay.specs.Runs.{has_world}
-use Rattle.schedule_replay.specs.Stretches.{list_at}
+use Rattle.schedule_replay.specs.layers.Runs.{has_world}
+use Rattle.schedule_replay.specs.layers.Stretches.{list_at}
 use Rattle.schedule_replay.proofs.merging.are_filled.Given as goal
 
 abbrev pub invariant-units : goal.invariant-units

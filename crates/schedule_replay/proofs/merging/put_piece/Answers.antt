@@ -2,7 +2,7 @@ use Rattle.std.proofs.Common.{◌≡◌, List, Option, ◌++◌, ◌∷◌, [], 
 use Rattle.std.specs.Option.{option_to_list}
 use Rattle.std.specs.List.{AllByRecursion}
 use Rattle.pitch_fields.proofs.Lists.{all_split}
-use Rattle.schedule_replay.specs.Runs.{Ran}
+use Rattle.schedule_replay.specs.layers.Runs.{Ran}
 use Rattle.schedule_replay.specs.declared.units.UnitRun.{UnitRun}
 use Rattle.schedule_replay.proofs.merging.put_piece.Goals as goal
 

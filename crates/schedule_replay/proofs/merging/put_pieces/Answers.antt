@@ -2,8 +2,8 @@ use Rattle.std.proofs.Common.{◌≡◌, List, Option, Result, IfOk, ◌++◌, �
 use Rattle.std.specs.Option.{option_to_list}
 use Rattle.std.specs.List.{AllByRecursion}
 use Rattle.pitch_fields.proofs.Lists.{all_split}
-use Rattle.schedule_replay.specs.Runs.{Ran}
-use Rattle.schedule_replay.specs.Stretches.{StretchPart}
+use Rattle.schedule_replay.specs.layers.Runs.{Ran}
+use Rattle.schedule_replay.specs.layers.Stretches.{StretchPart}
 use Rattle.schedule_replay.specs.declared.units.UnitRun.{UnitRun}
 use Rattle.schedule_replay.specs.declared.unrun.CantRunApart.{CantRunApart}
 use Rattle.schedule_replay.proofs.Joining.{all_at}

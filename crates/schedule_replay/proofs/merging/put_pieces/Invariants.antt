@@ -1,7 +1,7 @@
 use Rattle.std.proofs.Common.{List, vec_len, IfOk}
 use Rattle.std.specs.List.{AllByRecursion}
-use Rattle.schedule_replay.specs.Runs.{Ran, AreRunsAt}
-use Rattle.schedule_replay.specs.Stretches.{StretchPart}
+use Rattle.schedule_replay.specs.layers.Runs.{Ran, AreRunsAt}
+use Rattle.schedule_replay.specs.layers.Stretches.{StretchPart}
 use Rattle.schedule_replay.proofs.merging.put_pieces.Given as goal
 
 abbrev pub invariant-turns : goal.invariant-turns

@@ -1,6 +1,6 @@
 use Rattle.std.proofs.Common.{List, Option, [], ◌∷◌, ◌++◌, sym, ap, ◌∙◌}
 use Rattle.world_model.specs.declared.world.World.{World}
-use Rattle.schedule_replay.specs.Places.{worlds_in}
+use Rattle.schedule_replay.specs.layers.Places.{worlds_in}
 use Rattle.schedule_replay.proofs.Places.{worlds_none, worlds_more}
 use Rattle.schedule_replay.proofs.running.all_worlds.Goals as goal
 

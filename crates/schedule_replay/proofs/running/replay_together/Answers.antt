@@ -1,6 +1,6 @@
 use Rattle.std.proofs.Common.{◌≡◌, ◌++◌, List, ap, ◌∙◌, reverse}
 use Rattle.world_model.specs.declared.world.World.{World}
-use Rattle.schedule_replay.specs.Places.{worlds_in}
+use Rattle.schedule_replay.specs.layers.Places.{worlds_in}
 use Rattle.schedule_replay.proofs.Places.{all_worlds_are}
 use Rattle.schedule_replay.proofs.running.replay_together.Goals as goal
 

@@ -6,7 +6,7 @@ use Rattle.world_model.specs.Stands.{WorldStands}
 use Rattle.world_model.specs.Verbs.{state_of}
 use Rattle.world_model.specs.declared.limits.Limits.{Limits}
 use Rattle.schedule_replay.specs.Replay.{verbs_of, limits_of, replay_line}
-use Rattle.schedule_replay.specs.Places.{IsPlace, IsReady}
+use Rattle.schedule_replay.specs.layers.Places.{IsPlace, IsReady}
 use Rattle.schedule_replay.proofs.Places.{world_more, line_is}
 use Rattle.pitch_model.proofs.Results.{on_ok_map}
 use Rattle.schedule_replay.proofs.running.run_in.Goals as goal

@@ -5,7 +5,7 @@ use Rattle.std.proofs.lemmas.Option.{slice_get_read}
 use Rattle.pitch_text.specs.declared.verb.ScheduleEntry.{ScheduleEntry}
 use Rattle.world_model.specs.declared.world.World.{World}
 use Rattle.schedule_replay.specs.Replay.{replay_line}
-use Rattle.schedule_replay.specs.Places.{ArePlaces, IsPlace}
+use Rattle.schedule_replay.specs.layers.Places.{ArePlaces, IsPlace}
 use Rattle.schedule_replay.proofs.Places.{places_more}
 use Rattle.pitch_model.proofs.Results.{on_ok_map}
 use Rattle.schedule_replay.proofs.running.run_line.Goals as goal

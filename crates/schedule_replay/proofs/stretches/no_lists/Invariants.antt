@@ -1,5 +1,5 @@
 use Rattle.std.proofs.Common.{◌≡◌, ℕ, []}
-use Rattle.schedule_replay.specs.Stretches.{list_at}
+use Rattle.schedule_replay.specs.layers.Stretches.{list_at}
 use Rattle.schedule_replay.proofs.stretches.no_lists.Given as goal
 
 abbrev pub invariant-lists : goal.invariant-lists

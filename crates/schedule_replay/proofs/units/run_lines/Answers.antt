@@ -5,7 +5,7 @@ use Rattle.pitch_text.specs.declared.verb.ScheduleEntry.{ScheduleEntry}
 use Rattle.text_lines.specs.Items.{items_of}
 use Rattle.text_lines.specs.declared.fault.TextError.{TextError}
 use Rattle.text_lines.proofs.TextLemmas.{items_all}
-use Rattle.schedule_replay.specs.Stretches.{items_at}
+use Rattle.schedule_replay.specs.layers.Stretches.{items_at}
 use Rattle.schedule_replay.proofs.Parting.{Going, goes_none, goes_more, goes_all}
 use Rattle.schedule_replay.proofs.units.run_lines.Goals as goal
 

@@ -1,5 +1,5 @@
 use Rattle.schedule_replay.proofs.Parting.{Going}
-use Rattle.schedule_replay.specs.Stretches.{items_at}
+use Rattle.schedule_replay.specs.layers.Stretches.{items_at}
 use Rattle.schedule_replay.proofs.units.run_lines.Given as goal
 
 abbrev pub invariant-entries : goal.invariant-entries

@@ -1,7 +1,7 @@
 use Rattle.std.proofs.Common.{◌≡◌, List, Vec, Global, Some, length, refl, sym, ap, ◌∙◌}
 use Rattle.std.specs.List.{slice_get}
 use Rattle.std.proofs.lemmas.Option.{slice_get_read}
-use Rattle.schedule_replay.specs.Stretches.{list_at, list_on}
+use Rattle.schedule_replay.specs.layers.Stretches.{list_at, list_on}
 use Rattle.schedule_replay.specs.declared.stretches.Stretch.{Stretch}
 use Rattle.schedule_replay.proofs.Parting.{listed_run}
 use Rattle.schedule_replay.proofs.units.run_listed.Goals as goal

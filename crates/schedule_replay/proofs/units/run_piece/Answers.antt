@@ -1,8 +1,8 @@
 use Rattle.std.proofs.Common.{sym, subst}
 use Rattle.std.specs.List.{AllByRecursion}
 use Rattle.pitch_fields.proofs.Lists.{all_push}
-use Rattle.schedule_replay.specs.Runs.{Ran}
-use Rattle.schedule_replay.specs.Stretches.{parts_of}
+use Rattle.schedule_replay.specs.layers.Runs.{Ran}
+use Rattle.schedule_replay.specs.layers.Stretches.{parts_of}
 use Rattle.schedule_replay.proofs.units.run_piece.Goals as goal
 
 pub units-init : goal.units-init

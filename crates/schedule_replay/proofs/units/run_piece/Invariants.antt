@@ -1,4 +1,4 @@
-use Rattle.schedule_replay.specs.Runs.{AreRun}
+use Rattle.schedule_replay.specs.layers.Runs.{AreRun}
 use Rattle.schedule_replay.proofs.units.run_piece.Given as goal
 
 abbrev pub invariant-units : goal.invariant-units

@@ -1,5 +1,5 @@
 use Rattle.std.proofs.Common.{arith, ◌+◌, refl}
-use Rattle.schedule_replay.specs.Stretches.{items_at}
+use Rattle.schedule_replay.specs.layers.Stretches.{items_at}
 use Rattle.schedule_replay.proofs.Parting.{ran_more}
 use Rattle.schedule_replay.proofs.units.run_stretch.Goals as goal
 

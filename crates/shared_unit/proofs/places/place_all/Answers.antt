@@ -1,7 +1,7 @@
 use Rattle.std.proofs.Common.{List, [], ◌∷◌, length, subst, sym, ap, ◌∙◌, arith, length-append}
 use Rattle.std.specs.List.{AllByRecursion}
 use Rattle.pitch_fields.proofs.Lists.{all_push}
-use Rattle.shared_unit.specs.Moments.{Sight, IsNew, AreNumbered}
+use Rattle.shared_unit.specs.layers.Moments.{Sight, IsNew, AreNumbered}
 use Rattle.shared_unit.proofs.Looking.{numbered_more}
 use Rattle.shared_unit.proofs.places.place_all.Goals as goal
 

@@ -1,6 +1,6 @@
 use Rattle.std.proofs.Common.{◌≡◌, ◌≤◌, length}
 use Rattle.std.specs.List.{AllByRecursion}
-use Rattle.shared_unit.specs.Moments.{IsNew, AreNumbered}
+use Rattle.shared_unit.specs.layers.Moments.{IsNew, AreNumbered}
 use Rattle.shared_unit.proofs.places.place_all.Given as goal
 
 abbrev pub invariant-servers : goal.invariant-servers

@@ -2,7 +2,7 @@ use Rattle.std.proofs.Common.{List, reverse, sym, subst, ◌∙◌}
 use Rattle.pitch_text.specs.declared.verb.ScheduleEntry.{ScheduleEntry}
 use Rattle.world_model.specs.declared.world.World.{World}
 use Rattle.storm_replay.specs.Summary.{storm_lines}
-use Rattle.storm_replay.specs.Running.{AreInTurn}
+use Rattle.storm_replay.specs.layers.Running.{AreInTurn}
 use Rattle.storm_replay.proofs.Lines.{summary_is}
 use Rattle.storm_replay.proofs.Whole.{storm_whole}
 use Rattle.storm_replay.proofs.running.summary_of.Goals as goal

@@ -2,7 +2,7 @@ use Rattle.std.proofs.Common.{◌≡◌, List, ◌++◌, sym, ap, ◌∙◌, sub
 use Rattle.std.specs.List.{AllByRecursion}
 use Rattle.pitch_text.specs.WellFormed.{IsWellFormed}
 use Rattle.pitch_text.specs.declared.verb.Verb.{Verb}
-use Rattle.storm_replay.specs.Parts.{part_verbs}
+use Rattle.storm_replay.specs.layers.Parts.{part_verbs}
 use Rattle.storm_replay.proofs.Reading.{part_given, part_well_formed}
 use Rattle.storm_replay.proofs.schedule.push_part.Goals as goal
 

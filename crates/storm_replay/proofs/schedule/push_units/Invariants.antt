@@ -1,5 +1,5 @@
 use Rattle.std.proofs.Common.{◌≡◌, ◌++◌}
-use Rattle.storm_replay.specs.Parts.{part_by_each}
+use Rattle.storm_replay.specs.layers.Parts.{part_by_each}
 use Rattle.pitch_text.specs.Printing.{lines_text}
 use Rattle.storm_replay.proofs.schedule.push_units.Given as goal
 

@@ -3,7 +3,7 @@ use Rattle.std.proofs.lemmas.Result.{on_ok_weaker}
 use Rattle.pitch_text.specs.declared.verb.Verb.{Verb}
 use Rattle.storm_replay.specs.Storm.{start_verbs, end_verbs}
 use Rattle.world_model.specs.Stands.{WorldStands}
-use Rattle.storm_replay.specs.Units.{unit_steps}
+use Rattle.storm_replay.specs.layers.Units.{unit_steps}
 use Rattle.storm_replay.proofs.Course.{course_whole}
 use Rattle.storm_replay.proofs.units.do_course.Goals as goal
 

@@ -1,7 +1,7 @@
 use Rattle.std.proofs.Common.{◌≡◌, ◌+◌, ℕ, List, ◌++◌, reverse, sym, subst, arith}
 use Rattle.pitch_text.specs.declared.verb.Verb.{Verb}
 use Rattle.world_model.specs.Stands.{WorldStands}
-use Rattle.storm_replay.specs.Units.{unit_steps}
+use Rattle.storm_replay.specs.layers.Units.{unit_steps}
 use Rattle.storm_replay.proofs.Course.{no_steps, steps_next}
 use Rattle.storm_replay.proofs.units.do_steps.Goals as goal
 

@@ -1,6 +1,6 @@
 use Rattle.std.proofs.Common.{List, ◌++◌, reverse}
 use Rattle.pitch_text.specs.declared.verb.Verb.{Verb}
-use Rattle.storm_replay.specs.Units.{unit_steps}
+use Rattle.storm_replay.specs.layers.Units.{unit_steps}
 use Rattle.world_model.specs.Stands.{WorldStands}
 use Rattle.world_model.specs.declared.limits.Limits.{Limits}
 use Rattle.storm_replay.proofs.units.do_steps.Given as goal

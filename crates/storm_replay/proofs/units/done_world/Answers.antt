@@ -1,7 +1,7 @@
 use Rattle.std.proofs.Common.{reverse, subst}
 use Rattle.world_model.specs.Stands.{WorldStands}
 use Rattle.world_model.specs.declared.limits.Limits.{Limits}
-use Rattle.storm_replay.specs.Units.{unit_course}
+use Rattle.storm_replay.specs.layers.Units.{unit_course}
 use Rattle.storm_replay.proofs.units.done_world.Goals as goal
 
 pub returns-in-Ok : goal.returns-in-Ok

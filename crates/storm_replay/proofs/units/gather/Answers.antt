@@ -1,5 +1,5 @@
 use Rattle.std.proofs.Common.{List, ◌++◌, ◌∷◌, [], sym, ap, ◌∙◌, subst}
-use Rattle.storm_replay.specs.Units.{AreGathered}
+use Rattle.storm_replay.specs.layers.Units.{AreGathered}
 use Rattle.storm_replay.proofs.Course.{gather_ok}
 use Rattle.world_model.specs.declared.world.World.{World}
 use Rattle.storm_replay.proofs.units.gather.Goals as goal

@@ -1,4 +1,4 @@
-use Rattle.storm_replay.specs.Units.{AreGathered}
+use Rattle.storm_replay.specs.layers.Units.{AreGathered}
 use Rattle.storm_replay.proofs.units.gather.Given as goal
 
 abbrev pub invariant-pieces : goal.invariant-pieces

@@ -1,5 +1,5 @@
 use Rattle.std.proofs.Common.{take}
-use Rattle.storm_replay.specs.Units.{AreUnitsDone}
+use Rattle.storm_replay.specs.layers.Units.{AreUnitsDone}
 use Rattle.storm_replay.proofs.units.run_piece.Given as goal
 
 abbrev pub invariant-units : goal.invariant-units

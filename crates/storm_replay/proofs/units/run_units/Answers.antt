@@ -1,5 +1,5 @@
 use Rattle.std.proofs.Common.{ℕ, List, ◌∙◌, subst}
-use Rattle.storm_replay.specs.Units.{AreUnitsDone}
+use Rattle.storm_replay.specs.layers.Units.{AreUnitsDone}
 use Rattle.storm_replay.proofs.Course.{pieces_done}
 use Rattle.storm_replay.proofs.units.run_units.Goals as goal
 

@@ -3,7 +3,7 @@ use Rattle.std.proofs.Common.{rules, ◌<◌, ℕ, List, Option, length, refl, a
 use Rattle.std.proofs.lemmas.Option.{slice_get_read}
 use Rattle.unit_packets.specs.Blocks.{Block}
 use Rattle.client_core.specs.declared.client.UnitClient.{UnitClient}
-use Rattle.stream_print.specs.Books.{AreFirstBooks}
+use Rattle.stream_print.specs.layers.Books.{AreFirstBooks}
 use Rattle.unit_clients.specs.Clients.{Clients, AreUnits}
 use Rattle.pitch_model.proofs.Results.{on_err}
 use Rattle.stream_print.proofs.Uniting.{books_start, books_more, books_fail}

@@ -1,7 +1,7 @@
 use Rattle.stream_print.specs.Page.{PrintsSuch}
 use Rattle.std.proofs.Common.{◌≤◌, ℕ, List}
 use Rattle.unit_packets.specs.Blocks.{Block}
-use Rattle.stream_print.specs.Books.{AreBooksBelow}
+use Rattle.stream_print.specs.layers.Books.{AreBooksBelow}
 use Rattle.unit_clients.specs.Clients.{Clients}
 use Rattle.stream_print.proofs.books.print_books.Given as goal
 

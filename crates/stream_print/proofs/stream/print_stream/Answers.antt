@@ -2,7 +2,7 @@ use Rattle.std.proofs.Common.{rules, ◌≤◌, ◌++◌, ℕ, List, take, lengt
 use Rattle.std.specs.Io.KnownBytes.{Consumes}
 use Rattle.std.proofs.lemmas.List.{length-take-le}
 use Rattle.stream_print.specs.declared.stream_form.StreamForm.{StreamForm}
-use Rattle.stream_print.specs.Feeding.{StreamFeeds}
+use Rattle.stream_print.specs.layers.Feeding.{StreamFeeds}
 use Rattle.stream_print.specs.Inputs.{StreamEnds}
 use Rattle.stream_print.specs.Inputs.{stream_limit}
 use Rattle.stream_print.specs.Told.{between}

@@ -4,7 +4,7 @@ use Rattle.stream_print.specs.Page.{PrintsSuch}
 use Rattle.std.proofs.Common.{List, Option, sym, subst}
 use Rattle.client_core.specs.declared.client.UnitClient.{UnitClient}
 use Rattle.unit_packets.specs.Blocks.{Block}
-use Rattle.stream_print.specs.Books.{AreBooksBelow, AreFirstBooks}
+use Rattle.stream_print.specs.layers.Books.{AreBooksBelow, AreFirstBooks}
 use Rattle.stream_print.specs.Knowing.{Knows, task_form}
 use Rattle.unit_clients.specs.Clients.{Clients}
 use Rattle.stream_print.specs.declared.task.Task.{Task}

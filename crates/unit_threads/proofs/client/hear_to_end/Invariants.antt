@@ -1,5 +1,5 @@
 use Rattle.venue_core.specs.Plan.{plan}
-use Rattle.drill_client.specs.Following.{FollowsOn}
+use Rattle.drill_client.specs.layers.Following.{FollowsOn}
 use Rattle.unit_threads.proofs.client.hear_to_end.Given as goal
 
 abbrev pub invariant-said : goal.invariant-said

@@ -1,7 +1,7 @@
 use Rattle.std.proofs.Common.{◌-◌, ◌*◌, List, sym, ap, subst}
 use Rattle.pitch_model.specs.Advertising.{Operation}
 use Rattle.venue_core.specs.Commands.{raw_of}
-use Rattle.unit_threads.specs.Publishing.{HasAccepted}
+use Rattle.unit_threads.specs.layers.Publishing.{HasAccepted}
 use Rattle.unit_threads.proofs.Publishing.{accepted_next, legal_next}
 use Rattle.unit_threads.proofs.publisher.accept.Goals as goal
 

@@ -1,7 +1,7 @@
 use Rattle.std.proofs.Common.{◌≡◌, List, length, sym, ap, ◌∙◌, subst, arith}
 use Rattle.venue_core.proofs.PlanBooks.{plan_begins}
 use Rattle.pitch_model.specs.Advertising.{Operation, accepted_by}
-use Rattle.unit_threads.specs.Publishing.{HasAdvertised}
+use Rattle.unit_threads.specs.layers.Publishing.{HasAdvertised}
 use Rattle.unit_threads.proofs.Saying.{words_begin, words_next}
 use Rattle.unit_threads.proofs.publisher.publish_all.Goals as goal
 

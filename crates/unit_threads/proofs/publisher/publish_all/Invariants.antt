@@ -1,6 +1,6 @@
 use Rattle.std.proofs.Common.{◌≡◌, ◌*◌}
-use Rattle.unit_threads.specs.Publishing.{HasAccepted, HasAdvertised}
-use Rattle.unit_threads.specs.Saying.{words_through}
+use Rattle.unit_threads.specs.layers.Publishing.{HasAccepted, HasAdvertised}
+use Rattle.unit_threads.specs.layers.Saying.{words_through}
 use Rattle.unit_threads.proofs.publisher.publish_all.Given as goal
 
 abbrev pub invariant-commands : goal.invariant-commands

@@ -1,7 +1,7 @@
 use Rattle.std.proofs.Common.{◌≡◌, Bool, true, false, sym, ◌∙◌, subst}
 use Rattle.std.specs.Prelude.{IfNone}
 use Rattle.spin_server.specs.Served.{is_served}
-use Rattle.shared_unit.specs.Histories.{served_at}
+use Rattle.shared_unit.specs.layers.Histories.{served_at}
 use Rattle.unit_threads.proofs.Serving.{planned_prefix, serves_all}
 use Rattle.unit_threads.proofs.service.image_of_all.Goals as goal
 

@@ -2,16 +2,16 @@ use Rattle.std.proofs.Common.{◌≡◌, ◌≤◌, ℕ, List, refl, sym, ap, �
 use Rattle.std.specs.List.{AllByRecursion}
 use mathlib.Core.List.{IsPrefix}
 use Rattle.gap_store.specs.Look.{View, look}
-use Rattle.gap_store.specs.Looking.{PacksAt}
+use Rattle.gap_store.specs.layers.Looking.{PacksAt}
 use Rattle.gap_store.specs.declared.found.Found.TheVariants.{Kept}
 use Rattle.pitch_messages.specs.Room.{Roomy}
 use Rattle.pitch_model.specs.Advertising.{accepted_by}
 use Rattle.pitch_model.specs.History.{Raw}
 use Rattle.heard_items.specs.Datagrams.{IsPiece}
-use Rattle.shared_unit.specs.Histories.{kept_at}
+use Rattle.shared_unit.specs.layers.Histories.{kept_at}
 use Rattle.unit_packets.specs.Packing.{bytes_in}
 use Rattle.venue_core.specs.Plan.{plan}
-use Rattle.drill_client.specs.Answered.{is_found}
+use Rattle.drill_client.specs.layers.Answered.{is_found}
 use Rattle.drill_client.proofs.Answered.{range_kept, range_gone, range_packed}
 use Rattle.unit_threads.proofs.Serving.{course_plan, planned_prefix, served_pieces}
 use Rattle.unit_threads.proofs.service.range.Goals as goal

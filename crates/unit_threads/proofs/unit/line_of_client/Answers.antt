@@ -1,7 +1,7 @@
 use Rattle.std.proofs.Common.{List, ℕ, ◌++◌, sym, ap, ◌∙◌}
 use Rattle.pitch_model.specs.History.{Raw}
 use Rattle.venue_core.specs.Plan.{plan}
-use Rattle.drill_client.specs.Ending.{whole_line}
+use Rattle.drill_client.specs.layers.Ending.{whole_line}
 use Rattle.drill_client.proofs.Playing.{line_is}
 use Rattle.unit_threads.proofs.Serving.{course_plan}
 use Rattle.unit_threads.proofs.unit.line_of_client.Goals as goal

@@ -1,8 +1,8 @@
 use Rattle.std.proofs.Common.{arith, ◌∙◌}
 use Rattle.pitch_model.proofs.Results.{on_err}
-use Rattle.session_ends.specs.Hearing.{reader_items, says}
+use Rattle.session_ends.specs.layers.Hearing.{reader_items, says}
 use Rattle.stream_print.specs.Putting.{PutsSome}
-use Rattle.watched_venue.specs.Asked.{asked_lines}
+use Rattle.watched_venue.specs.layers.Asked.{asked_lines}
 use Rattle.watched_venue.proofs.Writing.{going_fail, going_more, going_none}
 use Rattle.watched_venue.proofs.seat.write_items.Goals as goal
 

@@ -1,5 +1,5 @@
 use Rattle.std.proofs.Common.{◌≡◌, ◌≤◌, length}
-use Rattle.session_ends.specs.Hearing.{reader_items, says}
+use Rattle.session_ends.specs.layers.Hearing.{reader_items, says}
 use Rattle.watched_venue.proofs.Writing.{Going}
 use Rattle.watched_venue.proofs.seat.write_items.Given as goal
 

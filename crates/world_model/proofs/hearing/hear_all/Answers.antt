@@ -4,7 +4,7 @@ use Rattle.std.proofs.lemmas.Option.{slice_get_read}
 use Rattle.unit_packets.specs.Blocks.{Block}
 use Rattle.unit_packets.specs.Cutting.{blocks_of}
 use Rattle.unit_packets.specs.Packing.{bytes_in}
-use Rattle.world_model.specs.Hearing.{HearsBlocks}
+use Rattle.world_model.specs.layers.Hearing.{HearsBlocks}
 use Rattle.world_model.proofs.HeardBlocks.{hears_more, blocks_more}
 use Rattle.world_model.proofs.hearing.hear_all.Goals as goal
 

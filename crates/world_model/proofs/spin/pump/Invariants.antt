@@ -1,7 +1,7 @@
 use Rattle.std.proofs.Common.{ℕ, List, ◌+◌, cond}
 use Rattle.spin_server.specs.Served.{Served}
 use Rattle.spin_server.specs.Serving.{blocks_left}
-use Rattle.world_model.specs.Carried.{IsServed}
+use Rattle.world_model.specs.layers.Carried.{IsServed}
 use Rattle.world_model.specs.State.{Connection}
 use Rattle.world_model.proofs.Pumping.{Pumping}
 use Rattle.world_model.proofs.spin.pump.Given as goal

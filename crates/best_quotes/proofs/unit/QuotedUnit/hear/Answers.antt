@@ -1,7 +1,7 @@
 use Rattle.std.proofs.Common.{sym, ap}
 use Rattle.unit_packets.specs.declared.header.Header.{Header}
 use Rattle.heard_items.proofs.Units.{honest_block}
-use Rattle.client_core.specs.Blocks.{Carries}
+use Rattle.client_core.specs.layers.Blocks.{Carries}
 use Rattle.best_quotes.proofs.unit.QuotedUnit.hear.Goals as goal
 
 -- what the client is handed is the block's

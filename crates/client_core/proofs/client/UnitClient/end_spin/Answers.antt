@@ -2,7 +2,7 @@ use Rattle.std.proofs.Common.{List, [], ◌∷◌, refl, ap, ◌∙◌, subst, c
 use Rattle.pitch_model.specs.Book.{book_after}
 use Rattle.pitch_model.specs.History.{Entry, spin_of}
 use Rattle.pitch_model.specs.Honest.{AreImages}
-use Rattle.client_core.specs.Bookkeeping.{EndsSpin, FitsHeld}
+use Rattle.client_core.specs.layers.Bookkeeping.{EndsSpin, FitsHeld}
 use Rattle.client_core.specs.Tracks.{Tracks}
 use Rattle.client_core.specs.Client.{held_number}
 use Rattle.client_core.specs.declared.spinning.Finish.{Finish}

@@ -1,5 +1,5 @@
 use Rattle.std.proofs.Common.{List, ℕ, ◌+◌, length, sym, ap, subst, arith}
-use Rattle.client_core.specs.Items.{message_count}
+use Rattle.client_core.specs.layers.Items.{message_count}
 use Rattle.client_core.specs.Client.{held_number}
 use Rattle.client_core.proofs.Slices.{can_less}
 use Rattle.pitch_model.specs.History.{Entry}

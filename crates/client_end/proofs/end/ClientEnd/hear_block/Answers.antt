@@ -2,7 +2,7 @@ use Rattle.std.proofs.Common.{sym, ap}
 use Rattle.pitch_model.specs.Image.{image}
 use Rattle.unit_packets.specs.declared.header.Header.{Header}
 use Rattle.heard_items.proofs.Units.{honest_block}
-use Rattle.client_core.specs.Blocks.{Carries}
+use Rattle.client_core.specs.layers.Blocks.{Carries}
 use Rattle.client_end.specs.Came.{end_history}
 use Rattle.client_end.proofs.end.ClientEnd.hear_block.Goals as goal
 

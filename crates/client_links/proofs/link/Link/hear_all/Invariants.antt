@@ -1,5 +1,5 @@
 use Rattle.std.proofs.Common.{◌≡◌, ◌++◌, map, length, None}
-use Rattle.session_ends.specs.Hearing.{reader_items, says}
+use Rattle.session_ends.specs.layers.Hearing.{reader_items, says}
 use Rattle.session_ends.proofs.Runs.{Left}
 use Rattle.client_links.specs.Telling.{without_spare, tells_on, tells, until}
 use Rattle.client_links.proofs.link.Link.hear_all.Given as goal

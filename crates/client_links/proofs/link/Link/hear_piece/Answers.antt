@@ -1,7 +1,7 @@
 use Rattle.std.proofs.Common.{◌++◌, List, map, ap, ◌∙◌}
 use Rattle.heard_items.specs.declared.item.Item.{Item}
 use Rattle.session_ends.specs.declared.role.Role.{Role}
-use Rattle.session_ends.specs.Hearing.{reader_items}
+use Rattle.session_ends.specs.layers.Hearing.{reader_items}
 use Rattle.client_links.specs.Telling.{without_spare, run_of, tells}
 use Rattle.client_links.proofs.Linked.{heard_piece}
 use Rattle.client_links.proofs.link.Link.hear_piece.Goals as goal

@@ -1,6 +1,6 @@
 use Rattle.std.proofs.Common.{ap, ◌∙◌, sym, subst, ◌++◌}
 use Rattle.session_ends.specs.Ending.{Ending, EndKnows, known_of}
-use Rattle.session_ends.specs.Ticking.{tick_bytes}
+use Rattle.session_ends.specs.layers.Ticking.{tick_bytes}
 use Rattle.client_links.specs.Linking.{link_sends}
 use Rattle.client_links.proofs.Linked.{stands_ticked}
 use Rattle.client_links.proofs.link.Link.tick.Goals as goal

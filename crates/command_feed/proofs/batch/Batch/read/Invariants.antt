@@ -1,6 +1,6 @@
 use Rattle.std.proofs.Common.{◌≡◌, ◌+◌, length}
 use Rattle.text_lines.specs.Text.{all_of}
-use Rattle.command_feed.specs.Accepting.{with_before}
+use Rattle.command_feed.specs.layers.Accepting.{with_before}
 use Rattle.command_feed.proofs.batch.Batch.read.Given as goal
 
 abbrev pub invariant-reads : goal.invariant-reads

@@ -1,11 +1,11 @@
 use Rattle.std.proofs.Common.{◌≡◌, ◌||◌, ◌∷◌, None, Some, Bool, List, ap, ◌∙◌, sym, subst, refl}
 use Rattle.unit_packets.specs.Packing.{bytes_in}
-use Rattle.gap_store.specs.Looking.{IsLater}
+use Rattle.gap_store.specs.layers.Looking.{IsLater}
 use Rattle.session_ends.specs.declared.inbox.Heard.{Heard}
 use Rattle.session_ends.specs.Closing.{Setup, cause_of, logs_in}
 use Rattle.session_ends.specs.Ending.{Ending}
 use Rattle.session_ends.proofs.Ends.{none_is, some_is}
-use Rattle.session_ends.specs.Hearing.{reader_items, says}
+use Rattle.session_ends.specs.layers.Hearing.{reader_items, says}
 use Rattle.session_ends.proofs.Showing.{shown_same, shown_then}
 use Rattle.session_ends.proofs.Runs.{Left, Going, left_none, left_more, left_stop, left_end, going_none, going_more, going_stop, going_end, going_at}
 use Rattle.grp_session.specs.Budget.{Counted}

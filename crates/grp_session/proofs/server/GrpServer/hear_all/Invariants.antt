@@ -1,9 +1,9 @@
 use Rattle.std.proofs.Common.{◌≡◌, None, true, length}
 use Rattle.unit_packets.specs.Packing.{bytes_in}
 use Rattle.gap_store.specs.Look.{View}
-use Rattle.gap_store.specs.Looking.{IsLater}
-use Rattle.session_ends.specs.Hearing.{reader_items, says}
-use Rattle.session_ends.specs.Showing.{ShowsLater}
+use Rattle.gap_store.specs.layers.Looking.{IsLater}
+use Rattle.session_ends.specs.layers.Hearing.{reader_items, says}
+use Rattle.session_ends.specs.layers.Showing.{ShowsLater}
 use Rattle.session_ends.proofs.Runs.{Going, Left}
 use Rattle.grp_session.specs.Budget.{Spent, Counted}
 use Rattle.grp_session.specs.Serving.{grp_answer}

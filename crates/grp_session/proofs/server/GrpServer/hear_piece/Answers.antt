@@ -5,7 +5,7 @@ use Rattle.unit_packets.specs.Packing.{bytes_in}
 use Rattle.unit_packets.specs.Reading.{Reading}
 use Rattle.unit_packets.specs.Pieces.{loaded, passed}
 use Rattle.session_ends.specs.Ending.{Ending}
-use Rattle.session_ends.specs.Hearing.{reader_items}
+use Rattle.session_ends.specs.layers.Hearing.{reader_items}
 use Rattle.session_ends.specs.Sending.{some_bytes}
 use Rattle.session_ends.proofs.Ends.{takes}
 use Rattle.session_ends.proofs.Through.{Went, went}

@@ -28,7 +28,7 @@ use denote.Triple.Walked.{says, Stays, stay_dropped, walk_of, ends_at, walk_Meet
 use Rattle.harmed_venue.proofs.Walks.{none, none_made}
 use Rattle.harmed_venue.specs.contracts.call_log.CallLog as Log
 use Rattle.harmed_venue.specs.contracts.call_log.Made as Made
-use Rattle.harmed_venue.specs.Made.{call_of}
+use Rattle.harmed_venue.specs.layers.Made.{call_of}
 use Rattle.harmed_venue.specs.contracts.call_log.CallLog.then as F
 use Rattle.harmed_venue.specs.contracts.call_log.CallLog.then.Key.{name as #self}
 use Rattle.harmed_venue.proofs.call_log.CallLog.then.Statement as stated

@@ -1,7 +1,7 @@
 use Rattle.std.proofs.Common.{Bool, List, sym, ap, ◌∙◌, subst}
 use Rattle.venue_net.specs.VenueCalls.{VenueCall}
 use Rattle.harmed_venue.specs.Harmed.{told_if}
-use Rattle.harmed_venue.specs.Standing.{HarmedStands}
+use Rattle.harmed_venue.specs.layers.Standing.{HarmedStands}
 use Rattle.harmed_venue.proofs.Stepping.{after_put}
 use Rattle.harmed_venue.proofs.venue.HarmedVenueVenueNet.put.Goals as goal
 

@@ -2,7 +2,7 @@ use Rattle.std.proofs.Common.{◌≡◌, ℕ, Bool, List, ◌∷◌, length, sym
 use Rattle.venue_net.specs.VenueCalls.{VenueCall, Take}
 use Rattle.live_net.specs.LiveCalls.{taken_in}
 use Rattle.harmed_venue.specs.Harmed.{told_if}
-use Rattle.harmed_venue.specs.Standing.{HarmedStands}
+use Rattle.harmed_venue.specs.layers.Standing.{HarmedStands}
 use Rattle.harmed_venue.proofs.Stepping.{after_take}
 use Rattle.harmed_venue.proofs.venue.HarmedVenueVenueNet.take.Goals as goal
 

@@ -1,6 +1,6 @@
 use Rattle.std.proofs.Common.{List, sym, subst}
 use Rattle.venue_net.specs.VenueCalls.{VenueCall}
-use Rattle.harmed_venue.specs.Standing.{HarmedStands}
+use Rattle.harmed_venue.specs.layers.Standing.{HarmedStands}
 use Rattle.harmed_venue.proofs.Stepping.{after_wait}
 use Rattle.harmed_venue.proofs.venue.HarmedVenueVenueNet.wait.Goals as goal
 

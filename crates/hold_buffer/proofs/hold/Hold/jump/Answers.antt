@@ -1,7 +1,7 @@
 use Rattle.std.proofs.Common.{◌≡◌, ltb, subst}
 use Rattle.std.specs.FinMap as map
 use Rattle.hold_buffer.specs.HoldView.{HoldView}
-use Rattle.hold_buffer.specs.Places.{hold_of}
+use Rattle.hold_buffer.specs.layers.Places.{hold_of}
 use Rattle.hold_buffer.proofs.Kept.{jumped_is, kept_jumped}
 use Rattle.hold_buffer.proofs.hold.Hold.jump.Goals as goal
 

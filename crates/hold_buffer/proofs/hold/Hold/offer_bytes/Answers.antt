@@ -3,8 +3,8 @@ use Rattle.std.specs.FinMap as map
 use Rattle.std.specs.Option.{option_eq, option_map}
 use Rattle.std.proofs.Common.{eqb}
 use Rattle.hold_buffer.specs.HoldView.{HoldView}
-use Rattle.hold_buffer.specs.Offered.{Answers}
-use Rattle.hold_buffer.specs.Places.{hold_of}
+use Rattle.hold_buffer.specs.layers.Offered.{Answers}
+use Rattle.hold_buffer.specs.layers.Places.{hold_of}
 use Rattle.hold_buffer.specs.declared.hold.Offer.TheVariants.{Repeat, Next}
 use Rattle.hold_buffer.proofs.Kept.{first_held, next_unheld, kept_next}
 use Rattle.hold_buffer.proofs.hold.Hold.offer_bytes.Goals as goal

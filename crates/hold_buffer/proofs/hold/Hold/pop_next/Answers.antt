@@ -1,7 +1,7 @@
 use Rattle.std.proofs.Common.{◌≡◌, ◌≢◌, ℕ, ◌+◌, ◌-◌, List, arith, sym, ap, ◌∙◌, subst, Some, None, slice_get}
 use Rattle.std.specs.FinMap as map
 use Rattle.hold_buffer.specs.HoldView.{HoldView}
-use Rattle.hold_buffer.specs.Places.{hold_of}
+use Rattle.hold_buffer.specs.layers.Places.{hold_of}
 use Rattle.hold_buffer.proofs.Rings.{found_contains}
 use Rattle.hold_buffer.proofs.Kept.{front_from_sequence, no_front, front_above, popped_is, kept_popped, popped_held, popped_none}
 use Rattle.hold_buffer.proofs.hold.Hold.pop_next.Goals as goal

@@ -1,7 +1,7 @@
 use Rattle.std.proofs.Common.{◌≡◌, ℕ, List, subst}
 use Rattle.std.specs.List.{insert}
 use Rattle.circular_buffer.specs.Buffer.{Buffer, buffer}
-use Rattle.hold_buffer.specs.Places.{ring_of}
+use Rattle.hold_buffer.specs.layers.Places.{ring_of}
 use Rattle.hold_buffer.proofs.Placed.{inserted_ring, inserted_kept}
 use Rattle.hold_buffer.proofs.ring.Ring.insert.Goals as goal
 

@@ -1,6 +1,6 @@
 use Rattle.std.proofs.Common.{ℕ, List, subst, sym, IfOk, IfErr}
 use Rattle.circular_buffer.specs.Buffer.{Buffer}
-use Rattle.hold_buffer.specs.Places.{IsRising, IsKeyAt, IsGap}
+use Rattle.hold_buffer.specs.layers.Places.{IsRising, IsKeyAt, IsGap}
 use Rattle.hold_buffer.proofs.Placed.{entries_rise, found_there, room_there}
 use Rattle.hold_buffer.proofs.ring.Ring.place.Goals as goal
 

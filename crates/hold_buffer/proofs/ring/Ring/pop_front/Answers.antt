@@ -1,6 +1,6 @@
 use Rattle.std.proofs.Common.{◌≡◌, ℕ, List, drop, sym, subst}
 use Rattle.circular_buffer.specs.Buffer.{Buffer, buffer}
-use Rattle.hold_buffer.specs.Places.{ring_of}
+use Rattle.hold_buffer.specs.layers.Places.{ring_of}
 use Rattle.hold_buffer.proofs.Placed.{popped_ring, popped_ring_kept}
 use Rattle.hold_buffer.proofs.ring.Ring.pop_front.Goals as goal
 

@@ -1,6 +1,6 @@
 use Rattle.std.proofs.Common.{◌≡◌, ◌↔◌, true, subst, ap}
 use Rattle.std.specs.Prelude.{Bool, Contains, ℕ, List}
-use Rattle.live_net.specs.Scripts.{Scripted}
+use Rattle.live_net.specs.layers.Scripts.{Scripted}
 use Rattle.live_net.proofs.memory_lines.MemoryLines.is_listed.Goals as goal
 
 -- the answer says whether a call of this number is one of these

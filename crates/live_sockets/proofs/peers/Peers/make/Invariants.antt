@@ -1,5 +1,5 @@
 use Rattle.std.proofs.Common.{◌≡◌, map, false, replicate}
-use Rattle.live_sockets.specs.OpenPeers.{is_connected}
+use Rattle.live_sockets.specs.layers.OpenPeers.{is_connected}
 use Rattle.live_sockets.proofs.peers.Peers.make.Given as goal
 
 -- a peer without a connection stands for each address up to here

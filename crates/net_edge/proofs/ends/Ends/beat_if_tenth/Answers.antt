@@ -2,7 +2,7 @@ use Rattle.std.proofs.Common.{◌≡◌, ◌∙◌, ◌%◌, ◌≤◌, ℕ, tru
 use Rattle.std.proofs.lemmas.Bool.Decides.{nat_tests}
 use Rattle.pitch_model.proofs.Results.{at_exit}
 use Rattle.net_edge.specs.Due.{is_tenth}
-use Rattle.net_edge.specs.Markets.{SideAt, HasAccepted}
+use Rattle.net_edge.specs.layers.Markets.{SideAt, HasAccepted}
 use Rattle.net_edge.proofs.Turning.{beaten_tenth, beaten_other, advertised_still}
 use Rattle.net_edge.proofs.ends.Ends.beat_if_tenth.Goals as goal
 

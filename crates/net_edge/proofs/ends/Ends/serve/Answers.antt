@@ -1,6 +1,6 @@
 use Rattle.std.proofs.Common.{sym}
 use Rattle.pitch_model.proofs.Results.{at_exit}
-use Rattle.net_edge.specs.Markets.{SideAt}
+use Rattle.net_edge.specs.layers.Markets.{SideAt}
 use Rattle.net_edge.proofs.Markets.{still_at, at_turn}
 use Rattle.net_edge.proofs.Parts.{servers_over, proxy_begins, proxy_ends, spin_begins}
 use Rattle.net_edge.proofs.ends.Ends.serve.Goals as goal

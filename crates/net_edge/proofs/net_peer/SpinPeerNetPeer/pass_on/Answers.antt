@@ -5,7 +5,7 @@ use Rattle.pitch_model.specs.declared.ask.Ask.{Ask}
 use Rattle.session_ends.specs.Events.{Asked}
 use Rattle.world_model.specs.Verbs.{at_link}
 use Rattle.net_edge.specs.Acting.{image_asked}
-use Rattle.net_edge.specs.Sessions.{session_setup}
+use Rattle.net_edge.specs.layers.Sessions.{session_setup}
 use Rattle.net_edge.proofs.Linking.{asked_as}
 use Rattle.net_edge.proofs.Saying.{link_says_at, link_unasked}
 use Rattle.net_edge.proofs.net_peer.SpinPeerNetPeer.pass_on.Goals as goal

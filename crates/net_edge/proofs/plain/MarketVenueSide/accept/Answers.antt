@@ -4,7 +4,7 @@ use Rattle.pitch_model.specs.History.{Raw}
 use Rattle.venue_core.specs.Commands.{raw_of}
 use Rattle.venue_core.specs.Plan.{plan}
 use Rattle.net_edge.specs.Due.{demo_unit}
-use Rattle.net_edge.specs.Markets.{PlainHas, plain_journal}
+use Rattle.net_edge.specs.layers.Markets.{PlainHas, plain_journal}
 use Rattle.net_edge.proofs.plain.MarketVenueSide.accept.Goals as goal
 
 pub returns-clause-keeps : goal.returns-clause-keeps

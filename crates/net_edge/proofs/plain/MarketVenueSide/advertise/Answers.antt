@@ -1,4 +1,4 @@
-use Rattle.net_edge.specs.Markets.{plain_journal}
+use Rattle.net_edge.specs.layers.Markets.{plain_journal}
 use Rattle.net_edge.proofs.plain.MarketVenueSide.advertise.Goals as goal
 
 pub returns-clause-sequence : goal.returns-clause-sequence

@@ -3,7 +3,7 @@ use Rattle.unit_market.specs.Standing.{MarketState}
 use Rattle.unit_packets.specs.Packing.{bytes_in}
 use Rattle.grp_session.specs.Budget.{Counted}
 use Rattle.net_edge.specs.Due.{kept_messages}
-use Rattle.net_edge.specs.Markets.{PlainHas}
+use Rattle.net_edge.specs.layers.Markets.{PlainHas}
 use Rattle.net_edge.proofs.Markets.{plain_answered}
 use Rattle.net_edge.proofs.plain.MarketVenueSide.feed_proxy.Goals as goal
 

@@ -1,6 +1,6 @@
 use Rattle.std.proofs.Common.{refl, sym, ap, subst}
 use Rattle.unit_market.specs.Standing.{MarketState}
-use Rattle.net_edge.specs.Markets.{PlainHas}
+use Rattle.net_edge.specs.layers.Markets.{PlainHas}
 use Rattle.net_edge.proofs.Markets.{plain_fed}
 use Rattle.net_edge.proofs.plain.MarketVenueSide.feed_spin.Goals as goal
 

@@ -1,6 +1,6 @@
 use Rattle.std.proofs.Common.{ℕ, length, take, sym, subst, []}
 use Rattle.pitch_model.proofs.Results.{at_exit}
-use Rattle.net_edge.specs.Markets.{SideAt}
+use Rattle.net_edge.specs.layers.Markets.{SideAt}
 use Rattle.net_edge.proofs.Serving.{serves_got, serves_none, proxy_scene, proxy_may}
 use Rattle.net_edge.proofs.Breaking.{breaks_by}
 use Rattle.net_edge.proofs.Runs.{play_call}

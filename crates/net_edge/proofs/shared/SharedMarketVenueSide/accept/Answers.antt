@@ -2,8 +2,8 @@ use Rattle.std.proofs.Common.{◌∙◌, sym, ap}
 use Rattle.std.specs.Option.{option_copied}
 use Rattle.pitch_model.specs.Advertising.{Accept}
 use Rattle.pitch_text.specs.declared.command.Command.{Command}
-use Rattle.shared_unit.specs.Histories.{then_done}
-use Rattle.shared_unit.specs.Moments.{Writing}
+use Rattle.shared_unit.specs.layers.Histories.{then_done}
+use Rattle.shared_unit.specs.layers.Moments.{Writing}
 use Rattle.venue_core.specs.Commands.{raw_of}
 use Rattle.net_edge.proofs.Sharing.{accepted_is, accepted_there, accepts}
 use Rattle.net_edge.proofs.shared.SharedMarketVenueSide.accept.Goals as goal

@@ -1,7 +1,7 @@
 use Rattle.std.proofs.Common.{◌∙◌, ap}
 use Rattle.pitch_model.specs.Advertising.{Advertise}
-use Rattle.shared_unit.specs.Moments.{Writing}
-use Rattle.shared_unit.specs.Histories.{then_done}
+use Rattle.shared_unit.specs.layers.Moments.{Writing}
+use Rattle.shared_unit.specs.layers.Histories.{then_done}
 use Rattle.net_edge.proofs.Sharing.{advertises}
 use Rattle.net_edge.proofs.shared.SharedMarketVenueSide.advertise.Goals as goal
 

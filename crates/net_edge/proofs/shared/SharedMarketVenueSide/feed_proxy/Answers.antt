@@ -3,9 +3,9 @@ use mathlib.Core.List.{IsPrefix}
 use Rattle.pitch_model.specs.Advertising.{Operation}
 use Rattle.unit_packets.specs.Packing.{bytes_in}
 use Rattle.grp_session.specs.Budget.{Counted}
-use Rattle.shared_unit.specs.Moments.{Writing}
-use Rattle.shared_unit.specs.Histories.{kept_at}
-use Rattle.net_edge.specs.Markets.{SharedHas}
+use Rattle.shared_unit.specs.layers.Moments.{Writing}
+use Rattle.shared_unit.specs.layers.Histories.{kept_at}
+use Rattle.net_edge.specs.layers.Markets.{SharedHas}
 use Rattle.net_edge.proofs.Sharing.{proxy_answers}
 use Rattle.net_edge.proofs.shared.SharedMarketVenueSide.feed_proxy.Goals as goal
 

@@ -1,9 +1,9 @@
 use Rattle.std.proofs.Common.{List, refl, sym, subst, false, ◌≡◌}
 use mathlib.Core.List.{IsPrefix}
 use Rattle.pitch_model.specs.Advertising.{Operation}
-use Rattle.shared_unit.specs.Moments.{Writing}
-use Rattle.shared_unit.specs.Histories.{served_at}
-use Rattle.net_edge.specs.Markets.{SharedHas}
+use Rattle.shared_unit.specs.layers.Moments.{Writing}
+use Rattle.shared_unit.specs.layers.Histories.{served_at}
+use Rattle.net_edge.specs.layers.Markets.{SharedHas}
 use Rattle.net_edge.proofs.Sharing.{spin_answers}
 use Rattle.net_edge.proofs.shared.SharedMarketVenueSide.feed_spin.Goals as goal
 

@@ -1,12 +1,12 @@
 use Rattle.std.proofs.Common.{◌≡◌, ℕ, List, length, ◌&&◌, not, refl, subst, []}
 use Rattle.pitch_model.proofs.Results.{at_exit}
 use Rattle.pitch_io.specs.Nets.{NetTakeFailed, Take}
-use Rattle.pitch_io.specs.Coming.{came}
+use Rattle.pitch_io.specs.layers.Coming.{came}
 use Rattle.pitch_io.specs.declared.net.NetTaken.{NetTaken}
 use Rattle.pitch_io.specs.declared.net.NetTaken.TheVariants as taken
 use Rattle.pitch_io.specs.declared.net.LinkEnd.TheVariants.{SpinServer}
 use Rattle.net_edge.specs.Acting.{end_puts}
-use Rattle.net_edge.specs.Playing.{Plays}
+use Rattle.net_edge.specs.layers.Playing.{Plays}
 use Rattle.net_edge.specs.Scene.{is_got}
 use Rattle.net_edge.proofs.Spinning.{serves_on, spin_scene, spin_may}
 use Rattle.net_edge.proofs.Breaking.{breaks_by, stops_here}

@@ -1,5 +1,5 @@
 use Rattle.std.proofs.Common.{take}
-use Rattle.pitch_messages.specs.Chains.{joined}
+use Rattle.pitch_messages.specs.layers.Chains.{joined}
 use Rattle.pitch_messages.proofs.Fields.{Filled}
 use Rattle.pitch_messages.proofs.raw.Raw.of_fields.Given as goal
 

@@ -1,7 +1,7 @@
 use Rattle.std.proofs.Common.{ℕ, List, ◌+◌, ◌++◌, ◌∷◌, [], sym, ap, ◌∙◌, arith, subst, length}
 use Rattle.pitch_messages.specs.Room.{Roomy}
 use Rattle.pitch_messages.specs.Raw.{raws_of}
-use Rattle.pitch_messages.specs.Chains.{IsChain}
+use Rattle.pitch_messages.specs.layers.Chains.{IsChain}
 use Rattle.pitch_messages.proofs.Chains.{chain_push, chain_count}
 use Rattle.pitch_messages.proofs.raw_list.RawList.push_bytes.Goals as goal
 

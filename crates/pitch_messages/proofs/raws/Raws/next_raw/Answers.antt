@@ -1,6 +1,6 @@
 use Rattle.std.proofs.Common.{ℕ, ◌<◌, ◌-◌, List, ◌∷◌, length, sym, ◌∙◌, arith, subst}
 use Rattle.pitch_messages.specs.Raw.{IsRaw, raws_of}
-use Rattle.pitch_messages.specs.Chains.{IsChain}
+use Rattle.pitch_messages.specs.layers.Chains.{IsChain}
 use Rattle.pitch_messages.proofs.Chains.{starts}
 use Rattle.pitch_messages.proofs.raws.Raws.next_raw.Goals as goal
 

@@ -1,7 +1,7 @@
 use Rattle.std.proofs.Common.{ℕ, List, ap, ◌∙◌, subst}
 use Rattle.unit_packets.specs.Packing.{packed}
 use Rattle.pitch_model.specs.History.{Raw}
-use Rattle.relay_unit.specs.Sending.{added_datagrams}
+use Rattle.relay_unit.specs.layers.Sending.{added_datagrams}
 use Rattle.relay_unit.proofs.Following.{lays_relayed, lays_any}
 use Rattle.pitch_model.proofs.Results.{on_err}
 use Rattle.relay_unit.proofs.relay.Relay.hear.Given.{Over}

@@ -1,7 +1,7 @@
 use Rattle.std.proofs.Common.{ℕ, List, ◌∷◌, subst}
 use Rattle.unit_packets.specs.Blocks.{Block}
-use Rattle.relay_unit.specs.Calls.{AppendVenues}
-use Rattle.relay_unit.specs.Places.{AppendsThere}
+use Rattle.relay_unit.specs.layers.Calls.{AppendVenues}
+use Rattle.relay_unit.specs.layers.Places.{AppendsThere}
 use Rattle.relay_unit.specs.RelayText.{IsVenue}
 use Rattle.relay_unit.specs.Relays.{Relays, HaveRelayed, IsRelay}
 use Rattle.relay_unit.specs.Sparing.{IsSpentBy, messages_heard}

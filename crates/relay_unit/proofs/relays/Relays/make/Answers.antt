@@ -1,6 +1,6 @@
 use Rattle.std.proofs.Common.{[], refl}
 use Rattle.unit_clients.proofs.Placing.{each_empty}
-use Rattle.relay_unit.specs.AnyRelays.{HasSentAt}
+use Rattle.relay_unit.specs.layers.AnyRelays.{HasSentAt}
 use Rattle.relay_unit.specs.Relays.{IsRelay}
 use Rattle.relay_unit.proofs.relays.Relays.make.Goals as goal
 

@@ -1,7 +1,7 @@
 use Rattle.std.proofs.Common.{List, ◌<◌, length, subst, sym}
 use Rattle.pitch_messages.specs.Room.{Roomy}
 use Rattle.pitch_model.specs.History.{Raw}
-use Rattle.run_audit.specs.Finding.{messages_of}
+use Rattle.run_audit.specs.layers.Finding.{messages_of}
 use Rattle.run_audit.proofs.Logging.{few_all}
 use Rattle.run_audit.proofs.audit.Audit.report.Goals as goal
 

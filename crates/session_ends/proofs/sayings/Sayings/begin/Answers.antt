@@ -4,7 +4,7 @@ use Rattle.unit_packets.specs.Held.{StandsFirst}
 use Rattle.unit_packets.specs.declared.header.Header.{Header}
 use Rattle.session_ends.specs.declared.closed.CloseCause.TheVariants.{Sequenced}
 use Rattle.session_ends.specs.declared.inbox.Heard.TheVariants.{Broken}
-use Rattle.session_ends.specs.Hearing.{Saying, says, block_left, follows}
+use Rattle.session_ends.specs.layers.Hearing.{Saying, says, block_left, follows}
 use Rattle.session_ends.specs.Items.{closed_at, onward, messages_from}
 use Rattle.session_ends.proofs.Through.{begun_broken, begun_block, cut_more}
 use Rattle.session_ends.proofs.sayings.Sayings.begin.Goals as goal

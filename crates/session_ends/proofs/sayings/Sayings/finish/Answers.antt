@@ -1,5 +1,5 @@
 use Rattle.std.proofs.Common.{ℕ, List, ap, ◌∙◌, subst, is_some}
-use Rattle.session_ends.specs.Hearing.{Saying, IsThrough}
+use Rattle.session_ends.specs.layers.Hearing.{Saying, IsThrough}
 use Rattle.session_ends.proofs.Through.{through}
 use Rattle.session_ends.proofs.sayings.Sayings.finish.Goals as goal
 

@@ -1,5 +1,5 @@
 use Rattle.std.proofs.Common.{◌≡◌, length}
-use Rattle.session_ends.specs.Hearing.{says}
+use Rattle.session_ends.specs.layers.Hearing.{says}
 use Rattle.session_ends.proofs.sayings.Sayings.finish.Given as goal
 
 abbrev pub invariant-left : goal.invariant-left

@@ -1,6 +1,6 @@
 use Rattle.std.proofs.Common.{◌≡◌, ◌∷◌, [], ◌∙◌, ap, sym, subst, arith, drop, Err, MatchOption}
 use Rattle.unit_packets.specs.Judging.{judge}
-use Rattle.session_ends.specs.Hearing.{Saying, says}
+use Rattle.session_ends.specs.layers.Hearing.{Saying, says}
 use Rattle.session_ends.proofs.Through.{stopped}
 use Rattle.session_ends.proofs.sayings.Sayings.stop.Goals as goal
 

@@ -1,6 +1,6 @@
 use Rattle.std.proofs.Common.{sym, ◌∙◌, ◌<◌, ◌-◌, List, ap, arith, length}
 use Rattle.pitch_model.specs.Advertising.{Operation}
-use Rattle.shared_unit.specs.Moments.{history_in}
+use Rattle.shared_unit.specs.layers.Moments.{history_in}
 use Rattle.shared_unit.proofs.Fronts.{prefix_length}
 use Rattle.shared_unit.proofs.Steps.{history_prefix, publishes_moves}
 use Rattle.shared_unit.proofs.book.Eye.publish.Goals as goal

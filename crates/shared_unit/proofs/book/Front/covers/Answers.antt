@@ -1,6 +1,6 @@
 use Rattle.std.proofs.Common.{◌≤◌, ◌<◌, ap, subst, arith, length, List}
 use mathlib.Core.List.{IsPrefix}
-use Rattle.shared_unit.specs.Moments.{Moment, history_in}
+use Rattle.shared_unit.specs.layers.Moments.{Moment, history_in}
 use Rattle.shared_unit.proofs.Fronts.{prefix_shorter}
 use Rattle.shared_unit.proofs.Steps.{history_prefix}
 use Rattle.shared_unit.proofs.book.Front.covers.Goals as goal

@@ -1,7 +1,7 @@
 use Rattle.std.proofs.Common.{◌≡◌, ◌+◌, sym, ◌∙◌, ap, length, arith}
-use Rattle.shared_unit.specs.Histories.{IsLegal, then_done}
-use Rattle.shared_unit.specs.Moments.{history_in, rights_in}
-use Rattle.shared_unit.specs.Stored.{operation_of}
+use Rattle.shared_unit.specs.layers.Histories.{IsLegal, then_done}
+use Rattle.shared_unit.specs.layers.Moments.{history_in, rights_in}
+use Rattle.shared_unit.specs.layers.Stored.{operation_of}
 use Rattle.shared_unit.proofs.Steps.{adds_moves}
 use Rattle.std.proofs.Common.{length-append, [], ◌∷◌}
 use Rattle.shared_unit.proofs.Rights.{asks, may_next}

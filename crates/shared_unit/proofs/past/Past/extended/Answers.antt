@@ -1,7 +1,7 @@
 use Rattle.std.proofs.Common.{◌∙◌, List, ap, sym, subst}
 use Rattle.pitch_model.specs.Advertising.{Operation, advertised_by, last_ten}
-use Rattle.shared_unit.specs.Histories.{then_done}
-use Rattle.shared_unit.specs.Stored.{ComesAfter, operation_of}
+use Rattle.shared_unit.specs.layers.Histories.{then_done}
+use Rattle.shared_unit.specs.layers.Stored.{ComesAfter, operation_of}
 use Rattle.shared_unit.proofs.Growing.{served_grows}
 use Rattle.shared_unit.proofs.past.Past.extended.Goals as goal
 

@@ -5,9 +5,9 @@ use Rattle.pitch_messages.specs.Room.{Roomy}
 use Rattle.pitch_model.specs.Advertising.{Operation}
 use Rattle.spin_server.specs.declared.lookup.Imaged.TheVariants.{Image}
 use Rattle.shared_unit.specs.declared.published.Picture.{Picture}
-use Rattle.shared_unit.specs.Answers.{AnswersImage}
-use Rattle.shared_unit.specs.Histories.{served_at}
-use Rattle.shared_unit.specs.Stored.{raws_in}
+use Rattle.shared_unit.specs.layers.Answers.{AnswersImage}
+use Rattle.shared_unit.specs.layers.Histories.{served_at}
+use Rattle.shared_unit.specs.layers.Stored.{raws_in}
 use Rattle.shared_unit.proofs.Copying.{image_found}
 use Rattle.shared_unit.proofs.store.Store.image.Goals as goal
 

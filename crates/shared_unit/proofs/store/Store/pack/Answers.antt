@@ -2,7 +2,7 @@ use Rattle.std.proofs.Common.{◌≡◌, List, subst}
 use Rattle.std.proofs.lemmas.Result.{IfOk-weaker}
 use Rattle.pitch_model.specs.Advertising.{Operation}
 use Rattle.gap_store.specs.Look.{store_of}
-use Rattle.shared_unit.specs.Histories.{kept_at}
+use Rattle.shared_unit.specs.layers.Histories.{kept_at}
 use Rattle.shared_unit.proofs.store.Store.pack.Goals as goal
 
 pub returns-clause-answer : goal.returns-clause-answer

@@ -1,7 +1,7 @@
 use Rattle.std.proofs.Common.{◌≡◌, ◌+◌, Option, length, arith, subst, sym}
 use mathlib.Core.List.{IsPrefix}
 use Rattle.shared_unit.specs.declared.published.What.{What}
-use Rattle.shared_unit.specs.Stored.{EndsOrIsNothing, EndsWith, StandFor}
+use Rattle.shared_unit.specs.layers.Stored.{EndsOrIsNothing, EndsWith, StandFor}
 use Rattle.shared_unit.proofs.Growing.{copy_grows, grown_whole, has_room}
 use Rattle.shared_unit.proofs.store.StoreAbsorbPublished.absorb_first.Goals as goal
 

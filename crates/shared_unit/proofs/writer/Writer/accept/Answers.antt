@@ -4,8 +4,8 @@ use Rattle.pitch_model.specs.Advertising.{Operation, Accept, accepted_by}
 use Rattle.venue_core.specs.Commands.{raw_of}
 use Rattle.venue_core.specs.Refusals.{refusal}
 use Rattle.venue_core.specs.Stands.{Stands}
-use Rattle.shared_unit.specs.Moments.{Writing, cut}
-use Rattle.shared_unit.specs.Histories.{IsLegal, then_done}
+use Rattle.shared_unit.specs.layers.Moments.{Writing, cut}
+use Rattle.shared_unit.specs.layers.Histories.{IsLegal, then_done}
 use Rattle.shared_unit.proofs.Writing.{accepted_next, answer_memory, answer_sequence, sequences_left}
 use Rattle.shared_unit.proofs.writer.Writer.accept.Goals as goal
 

@@ -1,7 +1,7 @@
 use Rattle.std.proofs.Common.{◌≡◌, ◌+◌, List, length, subst, arith}
 use Rattle.pitch_model.specs.Advertising.{Operation, accepted_by}
 use Rattle.venue_core.specs.Stands.{Stands}
-use Rattle.shared_unit.specs.Moments.{Writing}
+use Rattle.shared_unit.specs.layers.Moments.{Writing}
 use Rattle.shared_unit.proofs.writer.Writer.accepted.Goals as goal
 
 pub overflow_sub-result : goal.overflow_sub-result

@@ -3,7 +3,7 @@ use Rattle.std.specs.Set.{is_member}
 use Rattle.pitch_model.specs.Advertising.{Operation, accepted_by, advertised_by, newest_of}
 use Rattle.pitch_model.specs.Book.{book_after}
 use Rattle.venue_core.specs.Stands.{Stands}
-use Rattle.shared_unit.specs.Moments.{Writing}
+use Rattle.shared_unit.specs.layers.Moments.{Writing}
 use Rattle.shared_unit.proofs.Writing.{newest_there, newest_not, picture_whole}
 use Rattle.shared_unit.proofs.writer.Writer.advertised.Goals as goal
 

@@ -1,7 +1,7 @@
 use Rattle.std.proofs.Common.{List, subst}
 use Rattle.pitch_model.specs.Advertising.{Operation, accepted_by}
 use Rattle.venue_core.specs.Stands.{Stands}
-use Rattle.shared_unit.specs.Moments.{Writing}
+use Rattle.shared_unit.specs.layers.Moments.{Writing}
 use Rattle.shared_unit.proofs.writer.Writer.last_raw.Goals as goal
 
 pub returns : goal.returns

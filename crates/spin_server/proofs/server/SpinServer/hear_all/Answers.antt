@@ -3,7 +3,7 @@ use Rattle.session_ends.specs.declared.inbox.Heard.{Heard}
 use Rattle.session_ends.specs.Closing.{Setup, cause_of, logs_in}
 use Rattle.session_ends.specs.Ending.{Ending}
 use Rattle.session_ends.proofs.Ends.{none_is, some_is}
-use Rattle.session_ends.specs.Hearing.{reader_items, says}
+use Rattle.session_ends.specs.layers.Hearing.{reader_items, says}
 use Rattle.session_ends.proofs.Showing.{shown_same, shown_then}
 use Rattle.session_ends.proofs.Runs.{Left, Going, left_none, left_more, left_stop, left_end, going_none, going_more, going_stop, going_end, going_at}
 use Rattle.spin_server.specs.Looking.{ServedLater}

@@ -1,6 +1,6 @@
 use Rattle.std.proofs.Common.{◌≡◌, length, true, None, [], Option}
-use Rattle.session_ends.specs.Hearing.{reader_items, says}
-use Rattle.session_ends.specs.Showing.{ShowsLater}
+use Rattle.session_ends.specs.layers.Hearing.{reader_items, says}
+use Rattle.session_ends.specs.layers.Showing.{ShowsLater}
 use Rattle.session_ends.proofs.Runs.{Going, Left}
 use Rattle.spin_server.specs.Served.{Served}
 use Rattle.spin_server.specs.Looking.{ServedLater}

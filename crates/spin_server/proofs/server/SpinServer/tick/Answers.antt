@@ -1,6 +1,6 @@
 use Rattle.std.proofs.Common.{ap, ◌∙◌, sym, subst, ◌++◌}
 use Rattle.session_ends.specs.Ending.{Ending, EndKnows, known_of}
-use Rattle.session_ends.specs.Ticking.{tick_bytes}
+use Rattle.session_ends.specs.layers.Ticking.{tick_bytes}
 use Rattle.spin_server.specs.Serving.{Serving, spin_sends}
 use Rattle.spin_server.proofs.Serves.{stands_ticked}
 use Rattle.spin_server.proofs.server.SpinServer.tick.Goals as goal

@@ -1,7 +1,7 @@
 use Rattle.std.proofs.Common.{◌≡◌, ◌-◌, length, fold, take, ap, ◌∙◌, subst, arith, List, ℕ}
 use Rattle.pitch_model.specs.Book.{Book, after}
 use Rattle.spin_server.specs.Shelves.{Shelf}
-use Rattle.spin_server.specs.ShelfCode.{IsShelf}
+use Rattle.spin_server.specs.layers.ShelfCode.{IsShelf}
 use Rattle.spin_server.proofs.Shelving.{served_between, book_to}
 use Rattle.spin_server.proofs.shelf.ImageShelf.book_at.Goals as goal
 

@@ -1,5 +1,5 @@
 use Rattle.std.proofs.Common.{◌∙◌, sym, subst}
-use Rattle.spin_server.specs.ShelfCode.{IsShelf}
+use Rattle.spin_server.specs.layers.ShelfCode.{IsShelf}
 use Rattle.spin_server.proofs.Shelving.{looks_not, looks_image}
 use Rattle.spin_server.proofs.shelf.ImageShelfImageLookup.image.Goals as goal
 

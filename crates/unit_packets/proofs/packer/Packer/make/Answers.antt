@@ -1,7 +1,7 @@
 use Rattle.std.proofs.Common.{◌≡◌, ℕ, List, [], drop, ap, sym, subst}
 use Rattle.pitch_messages.proofs.Chains.{no_raws}
 use Rattle.unit_packets.specs.Pushing.{Packing, HasPacked}
-use Rattle.unit_packets.specs.Packings.{unpacked}
+use Rattle.unit_packets.specs.layers.Packings.{unpacked}
 use Rattle.unit_packets.proofs.Beginning.{none_begun, seen}
 use Rattle.unit_packets.proofs.Packs.{packed_none}
 use Rattle.unit_packets.proofs.packer.Packer.make.Goals as goal

@@ -2,7 +2,7 @@ use Rattle.std.proofs.Common.{◌≡◌, ◌≤◌, ◌∙◌, [], length, ap, r
 use Rattle.pitch_messages.specs.Room.{Roomy}
 use Rattle.unit_packets.specs.Packing.{bytes_in}
 use Rattle.venue_core.specs.Waiting.{Waiting}
-use Rattle.venue_core.specs.Taking.{late_of}
+use Rattle.venue_core.specs.layers.Taking.{late_of}
 use Rattle.venue_core.proofs.Sending.{few_given, full_few, none_is_some}
 use Rattle.venue_core.proofs.outbox.Outbox.flush_settled.Goals as goal
 

@@ -1,7 +1,7 @@
 use Rattle.std.proofs.Common.{subst, sym, [], ◌≡◌}
 use Rattle.unit_packets.specs.Packing.{bytes_in}
 use Rattle.venue_core.specs.Waiting.{Waiting}
-use Rattle.venue_core.specs.Taking.{late_of}
+use Rattle.venue_core.specs.layers.Taking.{late_of}
 use Rattle.venue_core.proofs.Sending.{taken_some}
 use Rattle.venue_core.proofs.outbox.Outbox.take.Goals as goal
 

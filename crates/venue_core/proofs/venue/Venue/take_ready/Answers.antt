@@ -1,7 +1,7 @@
 use Rattle.std.proofs.Common.{◌≡◌, ◌∙◌, ◌++◌, ◌∷◌, [], List, ℕ, Option, Some, ap, sym, subst, refl}
 use Rattle.std.specs.Option.{IfSome}
 use Rattle.venue_core.specs.Standing.{VenueState}
-use Rattle.venue_core.specs.Taking.{MayTake, Advances}
+use Rattle.venue_core.specs.layers.Taking.{MayTake, Advances}
 use Rattle.venue_core.specs.Stands.{Stands}
 use Rattle.venue_core.proofs.Accepting.{one_more_possible, stands_on}
 use Rattle.venue_core.proofs.venue.Venue.take_ready.Goals as goal

@@ -1,5 +1,5 @@
 use Rattle.std.proofs.Common.{◌≡◌, map, false, replicate}
-use Rattle.venue_sockets.specs.Places.{has_client}
+use Rattle.venue_sockets.specs.layers.Places.{has_client}
 use Rattle.venue_sockets.proofs.places.Places.make.Given as goal
 
 -- a free place stands for each number up to here

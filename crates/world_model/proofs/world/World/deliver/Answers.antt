@@ -1,7 +1,7 @@
 use Rattle.std.proofs.Common.{List, ℕ, refl, subst, length}
 use Rattle.std.proofs.lemmas.Option.{slice_get_read, slice_get_past}
 use Rattle.unit_packets.specs.Cutting.{blocks_of}
-use Rattle.world_model.specs.Hearing.{HearsBlocks}
+use Rattle.world_model.specs.layers.Hearing.{HearsBlocks}
 use Rattle.world_model.proofs.Acting.{acts_delivered, acts_undelivered}
 use Rattle.world_model.proofs.world.World.deliver.Goals as goal
 

@@ -1,0 +1,6 @@
+-- What only the layers tell one another: no top call needs it.
+pub mod MemoryNets
+pub mod Coming
+pub mod Scripted
+pub mod Steady
+pub mod Taking

@@ -1,0 +1,6 @@
+-- What only the layers tell one another: no top call needs it.
+pub mod Ticking
+pub mod Happening
+pub mod Hearing
+pub mod Showing
+pub mod Laws

@@ -1,0 +1,6 @@
+-- What only the layers tell one another: no top call needs it.
+pub mod Books
+pub mod Failures
+pub mod Feeding
+pub mod Holding
+pub mod Pieces

@@ -1,0 +1,3 @@
+-- What only the layers tell one another: no top call needs it.
+pub mod PiecesLaws
+pub mod Causes

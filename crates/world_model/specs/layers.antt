@@ -1,0 +1,4 @@
+-- What only the layers tell one another: no top call needs it.
+pub mod Carried
+pub mod Hearing
+pub mod Steps
