@@ -181,19 +181,28 @@ not_after_3 = refl
 after_4_seconds : may_begin 0 (seconds 4 refused_thrice) ≡ true
 after_4_seconds = refl
 
--- a connection that stood for 63 seconds has not lasted, so 8 seconds are let pass; one that stood
--- for 64 has, so 1 is
-abbrev stood : ℕ → List LiveCall
-stood n = Take 0 65536 [] taken.Ended ∷ seconds n (Open 0 opened.Begun ∷ refused_thrice)
+-- a connection that stood for 3 seconds, after a pause of 4, has not lasted, so 8 are let pass; one
+-- that stood for 4 has, so 1 is, however often that happens
+abbrev stood : ℕ → List LiveCall → List LiveCall
+stood n run = Take 0 65536 [] taken.Ended ∷ seconds n (Open 0 opened.Begun ∷ run)
 
-not_after_7 : may_begin 0 (seconds 7 (stood 63)) ≡ false
+abbrev after_a_pause_of_4 : List LiveCall
+after_a_pause_of_4 = seconds 4 refused_thrice
+
+not_after_7 : may_begin 0 (seconds 7 (stood 3 after_a_pause_of_4)) ≡ false
 not_after_7 = refl
 
-after_8_seconds : may_begin 0 (seconds 8 (stood 63)) ≡ true
+after_8_seconds : may_begin 0 (seconds 8 (stood 3 after_a_pause_of_4)) ≡ true
 after_8_seconds = refl
 
-after_1_second_again : may_begin 0 (seconds 1 (stood 64)) ≡ true
+not_at_once_again_either : may_begin 0 (stood 4 after_a_pause_of_4) ≡ false
+not_at_once_again_either = refl
+
+after_1_second_again : may_begin 0 (seconds 1 (stood 4 after_a_pause_of_4)) ≡ true
 after_1_second_again = refl
+
+and_each_time : may_begin 0 (seconds 1 (stood 3 (seconds 1 (stood 4 after_a_pause_of_4)))) ≡ true
+and_each_time = refl
 
 -- one that stands is not begun
 not_while_it_stands : may_begin 0 (seconds 99 (Open 0 opened.Begun ∷ [])) ≡ false

@@ -7,10 +7,16 @@ use Rattle.live_net.specs.declared.live.PeerOpened.TheVariants as opened
 use Rattle.live_net.specs.declared.live.PeerTaken.TheVariants as taken
 use Rattle.live_net.specs.declared.live.PeerPut.TheVariants as put
 
--- the longest pause before a connection is begun again, in seconds; one that stood for so long has
--- lasted
+-- ---- Pauses
+-- the longest pause before a connection is begun again, in seconds
 abbrev pub longest_pause : ℕ
 longest_pause = 64
+
+-- so many seconds are let pass after so many ends: none at first, and then 1, 2, 4, .., 64
+abbrev pub pause_after : ℕ → ℕ
+pause_after ends = if ends == 0 then 0 else min (2 ^ (ends - 1)) longest_pause
+
+-- ---- Calls
 
 -- by this call a second has passed
 abbrev pub is_second : LiveCall → Bool
@@ -43,20 +49,22 @@ seconds_since peer (call ∷ before) =
     else if is_second call then seconds_since peer before + 1
     else seconds_since peer before
 
--- it stands, and has lasted
-abbrev pub has_lasted : ℕ → List LiveCall → Bool
-has_lasted peer run = stands peer run && nat_le longest_pause (seconds_since peer run)
+-- ---- When it is begun again
+-- it stands, and has lasted: for no less than the pause before it, which came after so many ends
+abbrev pub has_lasted : ℕ → ℕ → List LiveCall → Bool
+has_lasted peer ends run = stands peer run && nat_le (pause_after ends) (seconds_since peer run)
+
+-- how many ends there are in a row once one more came, after so many in the calls before it: where
+-- the connection that it ends has lasted, a row begins with it
+abbrev pub with_end : ℕ → ℕ → List LiveCall → ℕ
+with_end peer ends before = (if has_lasted peer ends before then 0 else ends) + 1
 
 -- how often it has ended since one last lasted, with the end of that one
 abbrev pub ends_in_row : ℕ → List LiveCall → ℕ
 ends_in_row peer [] = 0
 ends_in_row peer (call ∷ before) =
-    if ends_by peer call then (if has_lasted peer before then 0 else ends_in_row peer before) + 1
+    if ends_by peer call then with_end peer (ends_in_row peer before) before
     else ends_in_row peer before
-
--- so many seconds are let pass after so many ends: none at first, and then 1, 2, 4, .., 64
-abbrev pub pause_after : ℕ → ℕ
-pause_after ends = if ends == 0 then 0 else min (2 ^ (ends - 1)) longest_pause
 
 -- none stands, and it is time to begin one
 abbrev pub may_begin : ℕ → List LiveCall → Bool

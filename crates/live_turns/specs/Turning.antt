@@ -24,7 +24,7 @@ IsLink (Down seconds) stands since pause = (stands ≡ false) × (seconds ≡ pa
 pub record Knows (peer : ℕ) (run : List LiveCall) (r : Retry) : Type 0 where
   pub link_is : IsLink r.link (stands peer run) (seconds_since peer run)
       (pause_after (ends_in_row peer run))
-  pub pause_is : r.pause ≡ pause_after (ends_in_row peer run + 1)
+  pub pause_is : r.pause ≡ pause_after (ends_in_row peer run)
 
 -- each peer's is
 abbrev pub KnowEach : List LiveCall → LiveTurns → Type 0

@@ -1,11 +1,11 @@
 //! When the connection with a peer is begun, and begun again.
 
-ghost use Rattle.std.specs.Prelude.{◌≡◌, ℕ, ◌+◌, ◌∷◌, List, Bool, true, min};
+ghost use Rattle.std.specs.Prelude.{◌≡◌, ℕ, ◌+◌, ◌==◌, ◌∷◌, List, Bool, true, min};
 ghost use Rattle.std.specs.Prelude.{if◌then◌else◌};
 ghost use Rattle.live_net.specs.LiveCalls.{LiveCall, Wait};
 ghost use Rattle.live_net.specs.declared.live.WaitEnd.TheVariants as wait_end;
 ghost use Rattle.live_turns.specs.Retry.{stands, may_begin, begins_by, ends_by, ends_in_row};
-ghost use Rattle.live_turns.specs.Retry.{has_lasted, pause_after, longest_pause};
+ghost use Rattle.live_turns.specs.Retry.{with_end, pause_after, longest_pause};
 ghost use Rattle.live_turns.specs.Turning.{Knows};
 
 /// The longest pause before a connection is begun again, in seconds.
@@ -24,14 +24,14 @@ pub enum Link {
 #[derive(Clone, Copy, PartialEq, Eq)]
 pub struct Retry {
     pub link: Link,
-    /// How many seconds are let pass once it ends, unless it has lasted.
+    /// How many seconds were let pass since it last ended, or are until it is begun again.
     pub pause: u8,
 }
 
 /// Before the first call.
 pub const AT_FIRST: Retry = Retry {
     link: Link::Down(0),
-    pause: 1,
+    pause: 0,
 };
 
 // A sum of seconds, counted up to the longest pause.
@@ -42,6 +42,16 @@ fn within_longest(seconds: u8, more: u8) -> u8
         return (seconds + more).min(LONGEST_PAUSE);
     }
     LONGEST_PAUSE
+}
+
+// The pause that comes after one.
+fn longer(pause: u8) -> u8
+    ensures { result ≡ (if pause == 0 then 1 else min (pause + pause) longest_pause) }
+{
+    if pause == 0 {
+        return 1;
+    }
+    within_longest(pause, pause)
 }
 
 impl Retry {
@@ -89,16 +99,18 @@ impl Retry {
 
     // How many seconds are let pass if it ends now.
     fn pause_at_end(self) -> u8
-        ensures { (peer : ℕ) (run : List LiveCall) → Knows peer run self → result
-            ≡ pause_after ((if has_lasted peer run then 0 else ends_in_row peer run) + 1) }
+        ensures { (peer : ℕ) (run : List LiveCall) → Knows peer run self
+            → result ≡ pause_after (with_end peer (ends_in_row peer run) run) }
     {
         match self.link {
-            Link::Up(seconds) if seconds >= LONGEST_PAUSE => 1,
-            _ => self.pause,
+            Link::Up(seconds) if seconds >= self.pause => 1,
+            Link::Up(_) => longer(self.pause),
+            Link::Down(_) => longer(self.pause),
         }
     }
 
-    /// After it ended, or was refused.
+    /// After it ended, or was refused. One that stood for no less than the pause before it is begun
+    /// again after a second; else the pause is twice the one before, up to the longest.
     pub fn ended(self) -> Retry
         ensures { (peer : ℕ) (run : List LiveCall) (call : LiveCall) → Knows peer run self
             → ends_by peer call ≡ true → Knows peer (call ∷ run) result }
@@ -106,7 +118,7 @@ impl Retry {
         let pause = self.pause_at_end();
         Retry {
             link: Link::Down(pause),
-            pause: within_longest(pause, pause),
+            pause,
         }
     }
 }

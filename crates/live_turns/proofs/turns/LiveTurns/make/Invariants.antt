@@ -6,5 +6,5 @@ use Rattle.live_turns.proofs.turns.LiveTurns.make.Given as goal
 abbrev pub invariant-loop : goal.invariant-loop
 invariant-loop l = record {
   many : vec_len l.retries ≡ l.counter;
-  each : (peer : ℕ) (r : Retry) → slice_get l.retries.items peer ≡ Some r → r ≡ record { link = Down 0; pause = 1 };
+  each : (peer : ℕ) (r : Retry) → slice_get l.retries.items peer ≡ Some r → r ≡ record { link = Down 0; pause = 0 };
 }
