@@ -3,7 +3,6 @@
 ghost use Rattle.std.specs.Prelude.{◌≡◌, ◌≤◌, ◌+◌, ℕ, true, false, List, [], length, fold};
 ghost use Rattle.std.specs.Prelude.{OnOk, OnErr, IfOk, IsOk, IsErr, IfSome};
 ghost use Rattle.std.specs.Option.{IsSome};
-ghost use Rattle.pitch_fields.specs.Limits.{most_held};
 ghost use Rattle.pitch_model.specs.Book.{Book, IsBook, after};
 ghost use Rattle.pitch_model.specs.History.{Raw};
 ghost use Rattle.pitch_model.specs.Levels.{best, level};
@@ -27,7 +26,7 @@ use crate::lines::{QuoteLines, turn_each};
 use client_core::{Change, UnitClient};
 use indexmap::IndexMap;
 use order_book::{Turn, TurnList, UnitBook};
-use pitch_fields::{OutOfMemory, Price, Side, Symbol};
+use pitch_fields::{HoldLimit, OutOfMemory, Price, Side, Symbol};
 use std::alloc::Global;
 use std::marker::Model;
 use unit_packets::BlockView;
@@ -236,9 +235,8 @@ fn hear(
 
 impl LeveledUnit {
     /// A unit that has heard nothing, with levels where it is `leveled`. Its client will hold at
-    /// most `limit` messages, from 1 to 65,536.
-    pub fn make(alloc: Global, limit: u32, leveled: bool) -> Result<LeveledUnit, OutOfMemory>
-        requires { (1 ≤ limit) × (limit ≤ most_held) }
+    /// most `limit` messages.
+    pub fn make(alloc: Global, limit: HoldLimit, leveled: bool) -> Result<LeveledUnit, OutOfMemory>
         ensures tracks { IfOk result (λ unit. Tracks unit limit []) }
         // What it has heard, which is nothing, is of every venue.
         ensures keeps { IfOk result (λ unit. (V : List Raw) → Keeps unit V) }

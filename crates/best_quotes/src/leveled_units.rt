@@ -3,7 +3,6 @@
 ghost use Rattle.std.specs.Prelude.{◌≡◌, ◌≤◌, ◌<◌, ℕ, List, [], ◌∷◌, OnOk, OnErr, IfOk, IsOk};
 ghost use Rattle.std.specs.Prelude.{IfSome, Some, None, IfNone, true, false, length, slice_get};
 ghost use Rattle.std.specs.Option.{IsSome, IsSomeAnd};
-ghost use Rattle.pitch_fields.specs.Limits.{most_held};
 ghost use Rattle.unit_packets.specs.Blocks.{Block};
 ghost use Rattle.pitch_model.specs.History.{Raw, Entry};
 ghost use Rattle.pitch_model.specs.Honest.{Honest};
@@ -20,7 +19,7 @@ ghost use Rattle.best_quotes.specs.Hearing.{TellBlock, Advances};
 use crate::leveled::{Heard, LeveledUnit};
 use crate::lines::QuoteLines;
 use client_core::Change;
-use pitch_fields::OutOfMemory;
+use pitch_fields::{HoldLimit, OutOfMemory};
 use std::alloc::Global;
 use std::marker::Model;
 use unit_clients::UnitTable;
@@ -51,12 +50,11 @@ impl Model for LeveledUnits {
 // is put in its place only once it has heard the block.
 fn hear_at(
     alloc: Global,
-    limit: u32,
+    limit: HoldLimit,
     leveled: bool,
     slot: &mut Option<LeveledUnit>,
     block: &BlockView<'_>,
 ) -> Result<Change, OutOfMemory>
-    requires { (1 ≤ limit) × (limit ≤ most_held) }
     // Where the place was right for some blocks of a unit, the client there then stands for the
     // unit's history by them with this block after it.
     ensures tracks { OnOk result ((before : List Block) (unit : ℕ) → IsClient limit before unit
@@ -94,12 +92,11 @@ fn hear_at(
 // The same with the quotes of the messages that are applied, which fill `lines` anew.
 fn hear_quoted_at(
     alloc: Global,
-    limit: u32,
+    limit: HoldLimit,
     slot: &mut Option<LeveledUnit>,
     block: &BlockView<'_>,
     lines: &mut QuoteLines,
 ) -> Result<Heard, OutOfMemory>
-    requires { (1 ≤ limit) × (limit ≤ most_held) }
     ensures tracks { OnOk result ((before : List Block) (unit : ℕ) → IsClient limit before unit
         slot.old → TracksAt limit (heard_block block.now (unit_history unit before)) slot.new) }
     ensures keeps { OnOk result ((Image : List Raw → ℕ → List Raw) (V : List Raw) (E : List Entry)
@@ -149,10 +146,9 @@ fn reserve_at(slot: &mut Option<LeveledUnit>, messages: u32) -> Result<(), OutOf
 }
 
 impl LeveledUnits {
-    /// No unit has a client yet. Each will hold at most `limit` messages, from 1 to 65,536, and
-    /// have levels where they are `leveled`.
-    pub fn make(alloc: Global, limit: u32, leveled: bool) -> Result<LeveledUnits, OutOfMemory>
-        requires { (1 ≤ limit) × (limit ≤ most_held) }
+    /// No unit has a client yet. Each will hold at most `limit` messages, and have levels where
+    /// they are `leveled`.
+    pub fn make(alloc: Global, limit: HoldLimit, leveled: bool) -> Result<LeveledUnits, OutOfMemory>
         ensures limit { IfOk result (λ units. units.limit ≡ limit) }
         ensures heard { IfOk result (λ units. HaveHeard units []) }
     {

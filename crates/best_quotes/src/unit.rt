@@ -1,7 +1,6 @@
 //! One unit with quotes: its client, and beside it the price levels of the client's book.
 
-ghost use Rattle.std.specs.Prelude.{◌≡◌, ◌≤◌, ℕ, List, [], OnOk, IfOk};
-ghost use Rattle.pitch_fields.specs.Limits.{most_held};
+ghost use Rattle.std.specs.Prelude.{◌≡◌, ℕ, List, [], OnOk, IfOk};
 ghost use Rattle.pitch_model.specs.History.{Entry};
 ghost use Rattle.heard_items.specs.Changes.{block_change};
 ghost use Rattle.best_quotes.specs.Hearing.{StandsOn, Quotes};
@@ -13,7 +12,7 @@ use crate::lines::QuoteLines;
 use client_core::{Change, UnitClient};
 use indexmap::IndexMap;
 use order_book::TurnList;
-use pitch_fields::OutOfMemory;
+use pitch_fields::{HoldLimit, OutOfMemory};
 use std::alloc::Global;
 use unit_packets::BlockView;
 
@@ -30,10 +29,8 @@ pub struct QuotedUnit {
 }
 
 impl QuotedUnit {
-    /// A unit that has heard nothing. Its client will hold at most `limit` messages, from 1 to
-    /// 65,536.
-    pub fn make(alloc: Global, limit: u32) -> Result<QuotedUnit, OutOfMemory>
-        requires { (1 ≤ limit) × (limit ≤ most_held) }
+    /// A unit that has heard nothing. Its client will hold at most `limit` messages.
+    pub fn make(alloc: Global, limit: HoldLimit) -> Result<QuotedUnit, OutOfMemory>
         ensures { IfOk result (λ unit. Stands unit limit []) }
     {
         let client = UnitClient::make(alloc, limit)?;

@@ -1,7 +1,6 @@
 //! The quotes of a whole stream, with a unit's client and levels made at its first block.
 
-ghost use Rattle.std.specs.Prelude.{◌≡◌, ◌≤◌, ◌++◌, ℕ, List, [], ◌∷◌, OnOk, IfOk};
-ghost use Rattle.pitch_fields.specs.Limits.{most_held};
+ghost use Rattle.std.specs.Prelude.{◌≡◌, ◌++◌, ℕ, List, [], ◌∷◌, OnOk, IfOk};
 ghost use Rattle.unit_packets.specs.Blocks.{Block};
 ghost use Rattle.pitch_model.specs.History.{Raw};
 ghost use Rattle.pitch_model.specs.Honest.{Honest};
@@ -14,7 +13,7 @@ ghost use Rattle.best_quotes.specs.Units.{StandsAt, IsQuoted, HaveQuoted};
 use crate::lines::QuoteLines;
 use crate::unit::QuotedUnit;
 use client_core::Change;
-use pitch_fields::OutOfMemory;
+use pitch_fields::{HoldLimit, OutOfMemory};
 use std::alloc::Global;
 use std::marker::Model;
 use unit_clients::UnitTable;
@@ -42,12 +41,11 @@ impl Model for QuotedUnits {
 // Hands a block to what is in its unit's place, which is made where there is nothing.
 fn hear_at(
     alloc: Global,
-    limit: u32,
+    limit: HoldLimit,
     slot: &mut Option<QuotedUnit>,
     block: &BlockView<'_>,
     lines: &mut QuoteLines,
 ) -> Result<Change, OutOfMemory>
-    requires { (1 ≤ limit) × (limit ≤ most_held) }
     ensures stands { OnOk result ((before : List Block)
         → IsQuoted limit before block.now.unit slot.old
         → StandsAt limit (heard_block block.now (unit_history block.now.unit before)) slot.new) }
@@ -81,9 +79,8 @@ fn hear_at(
 }
 
 impl QuotedUnits {
-    /// No unit was heard of yet. Each client will hold at most `limit` messages, from 1 to 65,536.
-    pub fn make(alloc: Global, limit: u32) -> Result<QuotedUnits, OutOfMemory>
-        requires { (1 ≤ limit) × (limit ≤ most_held) }
+    /// No unit was heard of yet. Each client will hold at most `limit` messages.
+    pub fn make(alloc: Global, limit: HoldLimit) -> Result<QuotedUnits, OutOfMemory>
         ensures limit { IfOk result (λ units. units.limit ≡ limit) }
         ensures heard { IfOk result (λ units. HaveQuoted units []) }
     {

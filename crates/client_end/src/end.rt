@@ -1,10 +1,9 @@
 //! The end itself: what comes to it, what it says, and how far it is.
 
-ghost use Rattle.std.specs.Prelude.{◌≡◌, ◌≤◌, ℕ, ◌∷◌, ◌++◌, [], List, OnOk, OnErr, IfOk};
+ghost use Rattle.std.specs.Prelude.{◌≡◌, ℕ, ◌∷◌, ◌++◌, [], List, OnOk, OnErr, IfOk};
 ghost use Rattle.std.specs.Prelude.{IsOk, None, is_some, take};
 ghost use Rattle.std.specs.List.{AllByRecursion};
 ghost use Rattle.pitch_fields.specs.Fields.{AreBytes};
-ghost use Rattle.pitch_fields.specs.Limits.{most_held};
 ghost use Rattle.pitch_model.specs.Book.{book_after};
 ghost use Rattle.pitch_model.specs.History.{Raw};
 ghost use Rattle.pitch_model.specs.Honest.{Honest};
@@ -17,7 +16,7 @@ use crate::session::{ask_through, hear_bytes, hear_cut, hear_second};
 use client_core::{Change, UnitClient};
 use client_links::{GapLink, SpinLink};
 use order_book::UnitBook;
-use pitch_fields::OutOfMemory;
+use pitch_fields::{HoldLimit, OutOfMemory};
 use pitch_model::Status;
 use session_ends::Account;
 use std::alloc::Global;
@@ -43,15 +42,14 @@ impl ClientEnd {
     ghost use Rattle.client_end.specs.Stands.{EndIs, EndStands, Failed, Loosely, OfEnd, Comes};
     ghost use Rattle.client_end.specs.Stands.{LosesBoth, StandsStill};
 
-    /// An end to which nothing came yet, whose client holds at most `limit` messages, from 1 to
-    /// 65,536. It logs in with the account.
+    /// An end to which nothing came yet, whose client holds at most `limit` messages. It logs in
+    /// with the account.
     pub fn make(
         alloc: Global,
         unit: u8,
         account: &Account,
-        limit: u32,
+        limit: HoldLimit,
     ) -> Result<ClientEnd, OutOfMemory>
-        requires { (1 ≤ limit) × (limit ≤ most_held) }
         ensures stands { IfOk result (λ e. EndStands
             (record { unit = unit; account = account.now; hold = limit }) e []) }
     {

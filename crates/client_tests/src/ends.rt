@@ -1,5 +1,6 @@
 //! What the tests do with an end, in ample memory.
 
+use pitch_fields::HoldLimit;
 use sending_end::{Account, SendingEnd, Session};
 use std::process::Abort;
 
@@ -12,7 +13,8 @@ pub const ACCOUNT: Account = Account {
 
 /// An end of a unit, to which nothing came yet.
 pub fn end_of<R: Abort + AllocGlobal>(rt: &R, unit: u8) -> SendingEnd {
-    SendingEnd::make(rt.alloc(), unit, &ACCOUNT, 16).expect(rt, "memory")
+    let limit = HoldLimit::of(16).expect(rt, "a limit");
+    SendingEnd::make(rt.alloc(), unit, &ACCOUNT, limit).expect(rt, "memory")
 }
 
 /// A datagram comes, which has one block of the unit and nothing else.

@@ -1,7 +1,7 @@
 //! Units with the levels of their books, and without.
 
 use best_quotes::{LevelList, LeveledUnits, QuoteLines};
-use pitch_fields::{Price, Side, Symbol};
+use pitch_fields::{HoldLimit, Price, Side, Symbol};
 use std::process::Abort;
 use unit_packets::view_block;
 
@@ -15,7 +15,8 @@ const SECOND: &[u8] =
 
 // The units that have heard the first, in ample memory.
 fn units_of<R: Abort + AllocGlobal>(rt: &R, leveled: bool) -> LeveledUnits {
-    let mut units = LeveledUnits::make(rt.alloc(), 16, leveled).expect(rt, "memory");
+    let limit = HoldLimit::of(16).expect(rt, "a limit");
+    let mut units = LeveledUnits::make(rt.alloc(), limit, leveled).expect(rt, "memory");
     let block = view_block(FIRST).expect(rt, "a block");
     units.hear_block(rt.alloc(), &block).expect(rt, "memory");
     units.reserve(7, 2).expect(rt, "memory");

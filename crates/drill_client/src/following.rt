@@ -4,7 +4,6 @@ ghost use Rattle.std.specs.Prelude.{◌≡◌, ◌≤◌, ◌<◌, ◌+◌, ◌=
 ghost use Rattle.std.specs.Prelude.{false, None, OnOk, IfOk};
 ghost use Rattle.std.specs.List.{AllByRecursion};
 ghost use Rattle.pitch_fields.specs.Fields.{AreBytes};
-ghost use Rattle.pitch_fields.specs.Limits.{most_held};
 ghost use Rattle.unit_packets.specs.Cutting.{blocks_of};
 ghost use Rattle.unit_packets.specs.Packing.{bytes_in};
 ghost use Rattle.pitch_model.specs.Asking.{ask_of};
@@ -19,7 +18,7 @@ ghost use Rattle.drill_client.specs.layers.Following.{IsImageOf};
 use crate::items::{hear_whole, hear_without_memory};
 use client_core::{UnitClient, images_of_bytes_are_images};
 use heard_items::Item;
-use pitch_fields::OutOfMemory;
+use pitch_fields::{HoldLimit, OutOfMemory};
 use pitch_messages::{ByteList, RawList};
 use pitch_model::Ask;
 use std::alloc::Global;
@@ -27,8 +26,7 @@ use unit_packets::{BlockView, Blocks};
 
 /// A client that holds at most `limit` messages. Both its connections are up, and of messages it
 /// has heard nothing, so it follows every venue.
-pub fn begin(alloc: Global, limit: u32) -> Result<UnitClient, OutOfMemory>
-    requires { (1 ≤ limit) × (limit ≤ most_held) }
+pub fn begin(alloc: Global, limit: HoldLimit) -> Result<UnitClient, OutOfMemory>
     ensures { IfOk result (λ client. (V : List Raw)
         → AllByRecursion AreBytes V → Follows client limit V (SpinUp ∷ GrpUp ∷ [])) }
 {

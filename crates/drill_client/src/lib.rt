@@ -25,6 +25,6 @@ pub use crate::ending::{append_end, asks_when_told_of_all, hear_all};
 pub use crate::following::{begin, count_datagram, hear_datagram};
 pub use crate::hearing::{hear_reply, hear_word};
 pub use crate::run::DrillRun;
-pub use crate::turns::{KEPT, ROUND, drill_plain};
+pub use crate::turns::{KEPT, ROUND, drill_hold, drill_plain};
 pub use crate::values::{Datagram, Image, Reached};
 pub use crate::words::{Reply, Word};

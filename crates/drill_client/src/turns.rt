@@ -30,7 +30,7 @@ use crate::following::{
 use client_core::UnitClient;
 use gap_store::{Found, GapLookup};
 use heard_items::laws::{packed_messages_are_pieces, slices_are_the_venues};
-use pitch_fields::OutOfMemory;
+use pitch_fields::{HoldLimit, OutOfMemory};
 use pitch_messages::{ByteList, RawList};
 use pitch_model::Ask;
 use pitch_model::laws::venues_only_grow;
@@ -42,6 +42,16 @@ use venue_core::{VenueError, lost, plan_command, plan_is_accepted, plan_is_in_or
 
 /// How many messages a drill's gap stores keep, and how many its clients hold.
 pub const KEPT: u32 = 4096;
+
+/// The limit of what a drill's clients hold.
+pub fn drill_hold() -> HoldLimit
+    ensures { result ≡ drill_kept }
+{
+    let Some(limit) = HoldLimit::of(KEPT) else {
+        unreachable!();
+    };
+    limit
+}
 
 /// An image is advertised after every so many commands, and after the last.
 pub const ROUND: u32 = 1000;
@@ -372,7 +382,7 @@ fn play_all(alloc: Global, market: &mut Market, course: Course) -> Result<UnitCl
         course.count) (plain_history course.number course.unit course.count course.count)) }
 {
     plan_is_in_order();
-    let mut client = begin(alloc, KEPT)?;
+    let mut client = begin(alloc, drill_hold())?;
     let mut heard = 0;
     'commands: for before in 0..course.count {
         play(alloc, market, &mut client, &mut heard, course, before + 1)?;

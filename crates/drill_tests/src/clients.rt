@@ -2,7 +2,7 @@
 
 use client_core::UnitClient;
 use drill_client::{append_end, asks_when_told_of_all, begin, hear_all, hear_datagram};
-use pitch_fields::OutOfMemory;
+use pitch_fields::{HoldLimit, OutOfMemory};
 use pitch_messages::RawList;
 use std::alloc::Global;
 use std::test::*;
@@ -24,13 +24,21 @@ fn a_client_has_all_at_its_end(rt: HostRuntime) -> Result<(), Fail> {
     Ok(())
 }
 
+// A client that holds four messages at most.
+fn client_of(alloc: Global) -> Result<UnitClient, OutOfMemory> {
+    let Some(limit) = HoldLimit::of(4) else {
+        unreachable!();
+    };
+    begin(alloc, limit)
+}
+
 // Whether the client that has heard the datagram lacks something, and its line.
 fn hears_a_datagram(
     alloc: Global,
     datagram: &[u8],
     out: &mut Vec<u8>,
 ) -> Result<bool, OutOfMemory> {
-    let mut client = begin(alloc, 4)?;
+    let mut client = client_of(alloc)?;
     hear_datagram(&mut client, datagram)?;
     let asks = asks_when_told_of_all(&mut client, 1);
     append_end(&client, 1, out)?;
@@ -39,7 +47,7 @@ fn hears_a_datagram(
 
 // Whether the client that has heard nothing lacks something, and its line after the image.
 fn hears_an_image(alloc: Global, out: &mut Vec<u8>) -> Result<bool, OutOfMemory> {
-    let mut client = begin(alloc, 4)?;
+    let mut client = client_of(alloc)?;
     let asks = asks_when_told_of_all(&mut client, 1);
     hear_clock(alloc, &mut client)?;
     append_end(&client, 2, out)?;

@@ -5,7 +5,7 @@ ghost use Rattle.std.specs.Prelude.{◌≡◌};
 use client_core::UnitClient;
 use drill_client::{Datagram, DrillRun, Image, Reached, Reply, Word, begin, hear_reply, hear_word};
 use heard_items::laws::pieces_are_honest;
-use pitch_fields::OutOfMemory;
+use pitch_fields::{HoldLimit, OutOfMemory};
 use pitch_messages::RawList;
 use pitch_model::Status;
 use pitch_model::laws::images_leave_their_books;
@@ -75,7 +75,8 @@ fn is_current(client: &UnitClient) -> bool {
 fn start<R: DrillRun, W: Abort + AllocGlobal>(rt: &W) -> Result<(), Fail>
     requires { R.unit ≡ 1 }
 {
-    let mut client = begin(rt.alloc(), 4)?;
+    let limit = HoldLimit::of(4).expect(rt, "a limit");
+    let mut client = begin(rt.alloc(), limit)?;
     let right = hear_all_words::<R>(rt.alloc(), &mut client);
     drop(client);
     assert!(rt; right?);

@@ -7,6 +7,7 @@ use Rattle.std.specs.Option.{option_eq, option_map}
 use Rattle.std.proofs.lemmas.Bool.{both_ways, false≢true, eqb-true}
 use Rattle.std.proofs.lemmas.Bool.Decides.{nat_tests}
 use Rattle.circular_buffer.specs.Buffer.{Buffer, buffer}
+use Rattle.pitch_fields.specs.Limits.{IsHoldLimit}
 use Rattle.hold_buffer.specs.layers.Holding.{IsHold}
 use Rattle.hold_buffer.specs.layers.Offered.{Answers}
 use Rattle.hold_buffer.specs.layers.Places.{IsGap, IsRising, hold_of, IsHoldRing}
@@ -34,10 +35,10 @@ no_front None is = refl
 no_front (Some e) is = absurd (cc)
 
 -- an empty ring is a hold with nothing held
-pub kept_empty : (limit : ℕ) (ring : Buffer (ℕ × List ℕ)) → ring ≡ buffer [] limit → 0 < limit → limit ≤ 65536 → IsHoldRing 0 ring
-kept_empty limit ring is least most = subst (IsHoldRing 0) (sym is) (record {
+pub kept_empty : (limit : ℕ) (ring : Buffer (ℕ × List ℕ)) → ring ≡ buffer [] limit → IsHoldLimit limit → IsHoldRing 0 ring
+kept_empty limit ring is within = subst (IsHoldRing 0) (sym is) (record {
   hold = record {
-    limited = (least, most);
+    limited = (within.0, within.1);
     few = let z = map.len-empty nat_cmp (List ℕ) in omega arith;
     above = λ k t. absurd (both_ways _ (contains_empty k) t);
     fits = λ k t. absurd (both_ways _ (contains_empty k) t);

@@ -4,14 +4,14 @@ ghost use Rattle.std.specs.Prelude.{◌≡◌, ℕ, ◌+◌, ◌<◌, ◌≤◌,
 ghost use Rattle.std.specs.Prelude.{None, nat_lt};
 ghost use Rattle.std.specs.Option.{option_copied};
 ghost use Rattle.std.specs.FinMap as map;
-ghost use Rattle.pitch_fields.specs.Limits.{last_sequence, most_held};
+ghost use Rattle.pitch_fields.specs.Limits.{last_sequence};
 ghost use Rattle.pitch_messages.specs.Raw.{IsRaw};
 ghost use Rattle.hold_buffer.specs.layers.Holding.{IsHold};
 ghost use Rattle.hold_buffer.specs.layers.Offered.{Answers};
 ghost use Rattle.hold_buffer.specs.layers.Places.{IsRising, hold_of, IsHoldRing};
 
 use crate::ring::Ring;
-use pitch_fields::OutOfMemory;
+use pitch_fields::{HoldLimit, OutOfMemory};
 use pitch_messages::Raw;
 use std::alloc::Global;
 use std::marker::Model;
@@ -58,14 +58,13 @@ impl Model for Hold {
 }
 
 impl Hold {
-    /// A hold for at most `limit` messages, 1 to 65,536, with the floor 0 and nothing held.
-    pub fn make(alloc: Global, limit: u32) -> Result<Hold, OutOfMemory>
-        requires { (1 ≤ limit) × (limit ≤ most_held) }
+    /// A hold for at most `limit` messages, with the floor 0 and nothing held.
+    pub fn make(alloc: Global, limit: HoldLimit) -> Result<Hold, OutOfMemory>
         ensures { IfOk result (λ hold. hold ≡ record { floor = 0; limit = limit; held = map.empty }) }
     {
         Ok(Hold {
             floor: 0,
-            ring: Ring::make(alloc, limit)?,
+            ring: Ring::make(alloc, limit.places())?,
         })
     }
 

@@ -11,7 +11,7 @@ ghost use Rattle.line_copies.specs.Copies.{block_differing, CopiesDiffer};
 ghost use Rattle.line_copies.specs.Standing.{HaveKept, IsPlaceOf, KeepsAt};
 
 use crate::unit::{SLOTS, UnitCopies};
-use pitch_fields::OutOfMemory;
+use pitch_fields::{HoldLimit, OutOfMemory};
 use std::alloc::Global;
 use unit_clients::UnitTable;
 use unit_packets::BlockView;
@@ -53,7 +53,10 @@ impl LineCopies {
     pub fn make(alloc: Global) -> Result<LineCopies, OutOfMemory>
         ensures { IfOk result (λ copies. HaveKept copies []) }
     {
-        let units = UnitTable::make(alloc, SLOTS as u32)?;
+        let Some(limit) = HoldLimit::of(SLOTS as u32) else {
+            unreachable!();
+        };
+        let units = UnitTable::make(alloc, limit)?;
         Ok(LineCopies { units })
     }
 

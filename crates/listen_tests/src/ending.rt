@@ -3,6 +3,7 @@
 
 use live_net::{LiveStep, MemoryLive};
 use live_recovery::{Account, Counts, RecoverError, RecoverSetup, recover};
+use pitch_fields::HoldLimit;
 use pitch_io::MemorySink;
 use std::collections::VecDeque;
 use std::process::Abort;
@@ -60,7 +61,8 @@ struct Came {
 
 // A run where these units are named.
 fn run<R: Abort + AllocGlobal>(rt: &R, units: &[u8], steps: &[Step]) -> Came {
-    let setup = RecoverSetup::make(2, Vec::new(rt.alloc()), copy(rt, units), NOBODY, 16).expect(
+    let limit = HoldLimit::of(16).expect(rt, "a limit");
+    let setup = RecoverSetup::make(2, Vec::new(rt.alloc()), copy(rt, units), NOBODY, limit).expect(
         rt, "a setup",
     );
     let mut net = MemoryLive::make(rt.alloc(), script_of(rt, steps), Vec::new(rt.alloc()));

@@ -2,6 +2,7 @@
 
 use live_listen::{Counts, ListenError, ListenSetup, listen};
 use live_net::{LineStep, MemoryLines};
+use pitch_fields::HoldLimit;
 use pitch_io::MemorySink;
 use std::collections::VecDeque;
 use std::process::Abort;
@@ -60,6 +61,18 @@ fn script_of<R: Abort + AllocGlobal>(rt: &R, parts: &[&[Step]]) -> VecDeque<Line
     script
 }
 
+// A setup of so many lines, where these units are named.
+fn setup_of<R: Abort + AllocGlobal>(
+    rt: &R,
+    lines: u16,
+    units: &[u8],
+    hold: u32,
+) -> Option<ListenSetup> {
+    let hold = HoldLimit::of(hold)?;
+    let units = Vec::from_slice(rt.alloc(), units).expect(rt, "memory");
+    ListenSetup::make(lines, units, hold)
+}
+
 // Hears two lines by such a script. The call of the net with that number fails, and that put.
 fn hear_lines<R: Abort + AllocGlobal>(
     rt: &R,
@@ -68,8 +81,7 @@ fn hear_lines<R: Abort + AllocGlobal>(
     failing: u64,
     failing_put: u64,
 ) -> Came {
-    let units = Vec::from_slice(rt.alloc(), units).expect(rt, "memory");
-    let setup = ListenSetup::make(2, units, 16).expect(rt, "a setup");
+    let setup = setup_of(rt, 2, units, 16).expect(rt, "a setup");
     let calls = Vec::from_slice(rt.alloc(), &[failing]).expect(rt, "memory");
     let mut net = MemoryLines::make(rt.alloc(), script_of(rt, parts), calls);
     let puts = Vec::from_slice(rt.alloc(), &[failing_put]).expect(rt, "memory");
@@ -177,7 +189,6 @@ fn a_setup_has_a_line_and_a_hold(rt: HostRuntime) {
         (65535, 65536, true),
         (1, 65537, false),
     ] {
-        let setup = ListenSetup::make(lines, Vec::new(rt.alloc()), hold);
-        assert!(rt; setup.is_some() == is);
+        assert!(rt; setup_of(&rt, lines, &[], hold).is_some() == is);
     }
 }

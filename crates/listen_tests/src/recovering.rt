@@ -4,6 +4,7 @@ use live_net::{LiveStep, MemoryLive};
 use live_recovery::{
     Account, Counts, Disagreement, Peer, RecoverError, RecoverSetup, Session, recover,
 };
+use pitch_fields::HoldLimit;
 use pitch_io::MemorySink;
 use std::collections::VecDeque;
 use std::process::Abort;
@@ -78,6 +79,7 @@ fn script_of<R: Abort + AllocGlobal>(rt: &R, steps: &[Step]) -> VecDeque<LiveSte
 }
 
 fn setup_of<R: Abort + AllocGlobal>(rt: &R, hold: u32) -> Option<RecoverSetup> {
+    let hold = HoldLimit::of(hold)?;
     let proxy = Peer {
         unit: 7,
         session: Session::Proxy,

@@ -1,6 +1,7 @@
 //! Two units of a live client: what comes to them, and what is printed of it.
 
 use live_units::{Account, LiveUnits, Session, Taken};
+use pitch_fields::HoldLimit;
 use pitch_io::MemorySink;
 use std::process::Abort;
 use std::rt::HostRuntime;
@@ -34,7 +35,8 @@ const TEXT: &[u8] = b"block 1 unit 7 first 1 count 1; current 1\n\
 #[test]
 fn a_unit_comes_back_by_an_image(rt: HostRuntime) {
     let alloc = rt.alloc();
-    let mut units = LiveUnits::make(alloc, &[7, 2], &ACCOUNT, 16).expect(&rt, "memory");
+    let limit = HoldLimit::of(16).expect(&rt, "a limit");
+    let mut units = LiveUnits::make(alloc, &[7, 2], &ACCOUNT, limit).expect(&rt, "memory");
     let mut out = MemorySink::make(alloc, 1024, Vec::new(alloc));
     match units.hear_datagram(MIXED, &mut out) {
         Ok(passed) => assert!(rt; (passed.heard, passed.others, passed.rest) == (3, 1, 3)),

@@ -1,7 +1,6 @@
 -- How a listener ends, and what it has written by then.
 use Rattle.std.specs.Prelude.{◌≡◌, ◌≤◌, ℕ, List, [], ◌∷◌, ◌++◌, Option, None, Some, reverse}
 use Rattle.std.specs.Prelude.{Result, Ok, Err}
-use Rattle.pitch_fields.specs.Limits.{most_held}
 use Rattle.pitch_io.specs.Putting.{Grows}
 use Rattle.unit_packets.specs.Blocks.{Block}
 use Rattle.pitch_model.specs.History.{Raw}
@@ -25,11 +24,9 @@ pub record Setup : Type 0 where
   pub units : List ℕ
   pub hold : ℕ
 
--- there is a line, and a hold has a place at least, and at most as many as a client may hold
-pub record CanListen (lines hold : ℕ) : Type 0 where
-  pub line : 1 ≤ lines
-  pub place : 1 ≤ hold
-  pub within : hold ≤ most_held
+-- there is a line
+abbrev pub CanListen : (lines : ℕ) → Type 0
+CanListen lines = 1 ≤ lines
 
 abbrev pub heard_of : Setup → List LineCall → List Block
 heard_of s run = blocks_heard s.units (datagrams_of run)

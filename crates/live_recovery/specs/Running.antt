@@ -3,7 +3,6 @@
 use Rattle.std.specs.Prelude.{◌≡◌, ◌≢◌, ◌⊎◌, ◌≤◌, ℕ, zero, suc, Bool, false, List, [], ◌∷◌, drop}
 use Rattle.std.specs.Prelude.{length, slice_get, None, Some}
 use Rattle.std.specs.Option.{option_map_or}
-use Rattle.pitch_fields.specs.Limits.{most_held}
 use Rattle.client_end.specs.Came.{Came, Second}
 use Rattle.sending_end.specs.Waiting.{made, took, lost, ended}
 use Rattle.sending_end.specs.declared.session.Session.{Session}
@@ -27,12 +26,9 @@ pub record Setup : Type 0 where
   pub peers : List Peer
   pub listens : LiveSetup
 
--- two bytes count the peers, and a hold has a place at least, and at most as many as a client may
--- hold
-pub record CanRecover (peers : List Peer) (hold : ℕ) : Type 0 where
-  pub few : length peers ≤ 65535
-  pub place : 1 ≤ hold
-  pub within : hold ≤ most_held
+-- two bytes count the peers
+abbrev pub CanRecover : List Peer → Type 0
+CanRecover peers = length peers ≤ 65535
 
 abbrev pub ways : Setup → Ways
 ways s = record { lines = s.lines; peers = length s.peers }

@@ -2,10 +2,8 @@
 
 use crate::peer::Peer;
 use live_units::Account;
+use pitch_fields::HoldLimit;
 use std::marker::Model;
-
-/// How many messages a unit's hold has at most.
-pub const MOST_HELD: u32 = 65536;
 
 /// How many lines there are, the peers by their numbers, the units that are listened to, the
 /// account of their logins, and how many messages the hold of each unit has room for.
@@ -15,7 +13,7 @@ pub struct RecoverSetup {
     peers: Vec<Peer>,
     units: Vec<u8>,
     account: Account,
-    hold: u32,
+    hold: HoldLimit,
 }
 
 impl Model for RecoverSetup {
@@ -29,7 +27,7 @@ impl Model for RecoverSetup {
       listens = record { units = s.units.items; account = s.account; hold = s.hold };
     } };
 
-    ghost invariant = { λ s. CanRecover s.peers.items s.hold };
+    ghost invariant = { λ s. CanRecover s.peers.items };
 }
 
 impl RecoverSetup {
@@ -38,23 +36,23 @@ impl RecoverSetup {
     ghost use Rattle.live_units.specs.Coming.{has_unit};
     ghost use Rattle.live_recovery.specs.Running.{CanRecover};
 
-    /// At most 65,535 peers, and a hold of 1 to 65,536 places. A peer is asked where its unit is
-    /// one of those that are named; each session of a unit is meant to have one peer.
+    /// At most 65,535 peers. A peer is asked where its unit is one of those that are named; each
+    /// session of a unit is meant to have one peer.
     pub fn make(
         lines: u16,
         peers: Vec<Peer>,
         units: Vec<u8>,
         account: Account,
-        hold: u32,
+        hold: HoldLimit,
     ) -> Option<RecoverSetup>
         ensures setup { IfSome result (λ setup. setup ≡ record {
           lines = lines;
           peers = peers.items;
           listens = record { units = units.items; account = account; hold = hold };
         }) }
-        ensures some { CanRecover peers.items hold → IsSome result }
+        ensures some { CanRecover peers.items → IsSome result }
     {
-        if peers.len() > usize::from(u16::MAX) || hold == 0 || hold > MOST_HELD {
+        if peers.len() > usize::from(u16::MAX) {
             drop(peers);
             drop(units);
             return None;
@@ -77,7 +75,8 @@ impl RecoverSetup {
 
     /// How many peers there are.
     pub fn peer_count(&self) -> u16
-        ensures { result ≡ length self.now.peers }
+        ensures count { result ≡ length self.now.peers }
+        ensures can { CanRecover self.now.peers }
     {
         self.peers.len() as u16
     }
@@ -111,9 +110,8 @@ impl RecoverSetup {
     }
 
     /// How many places the hold of each has.
-    pub fn hold(&self) -> u32
-        ensures hold { result ≡ self.now.listens.hold }
-        ensures can { CanRecover self.now.peers self.now.listens.hold }
+    pub fn hold(&self) -> HoldLimit
+        ensures { result ≡ self.now.listens.hold }
     {
         self.hold
     }

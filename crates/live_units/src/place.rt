@@ -1,8 +1,7 @@
 //! What comes to the unit in a place, where one stands there.
 
-ghost use Rattle.std.specs.Prelude.{◌≡◌, ◌≤◌, [], ℕ, List, OnOk, OnErr, IfOk, IsErr, Err, None};
+ghost use Rattle.std.specs.Prelude.{◌≡◌, [], ℕ, List, OnOk, OnErr, IfOk, IsErr, Err, None};
 ghost use Rattle.std.specs.Prelude.{◌≢◌, IsOk, is_some, false};
-ghost use Rattle.pitch_fields.specs.Limits.{most_held};
 ghost use Rattle.client_end.specs.Came.{Second};
 ghost use Rattle.sending_end.specs.Waiting.{made, ended};
 ghost use Rattle.stream_print.specs.Sinks.{PagePrintsSuch, PutsPrefix, PutsPrefixSuch};
@@ -14,7 +13,7 @@ ghost use Rattle.live_units.specs.Standing.{UnitPasses, UnitStays, UnitLoses, Un
 
 use crate::error::LiveError;
 use crate::unit::{LiveUnit, Taken};
-use pitch_fields::OutOfMemory;
+use pitch_fields::{HoldLimit, OutOfMemory};
 use pitch_io::Sink;
 use sending_end::{Account, Session};
 use std::alloc::Global;
@@ -35,9 +34,8 @@ pub(crate) fn listen_at(
     unit: u8,
     units: &[u8],
     account: &Account,
-    limit: u32,
+    limit: HoldLimit,
 ) -> Result<(), OutOfMemory>
-    requires { (1 ≤ limit) × (limit ≤ most_held) }
     ensures { OnOk result (place.old ≡ None → IsNewAt
         (record { units = units.now; account = account.now; hold = limit }) unit place.new) }
 {

@@ -1,8 +1,7 @@
 //! A unit of a live client: its end, and what is printed of what comes to it.
 
-ghost use Rattle.std.specs.Prelude.{◌≡◌, ◌≤◌, ◌++◌, [], ◌∷◌, ℕ, List, OnOk, OnErr, IfOk, IsErr};
+ghost use Rattle.std.specs.Prelude.{◌≡◌, ◌++◌, [], ◌∷◌, ℕ, List, OnOk, OnErr, IfOk, IsErr};
 ghost use Rattle.std.specs.Prelude.{◌≢◌, Err, IsOk, None, is_some};
-ghost use Rattle.pitch_fields.specs.Limits.{most_held};
 ghost use Rattle.pitch_model.specs.History.{Entry};
 ghost use Rattle.pitch_model.specs.Reach.{reach};
 ghost use Rattle.feed_lines.specs.Follow.{line_at};
@@ -17,7 +16,7 @@ ghost use Rattle.live_units.specs.LiveText.{is_told_of, moved_text};
 use crate::ended::after_block;
 use crate::error::LiveError;
 use crate::line::print_image;
-use pitch_fields::OutOfMemory;
+use pitch_fields::{HoldLimit, OutOfMemory};
 use pitch_io::Sink;
 use sending_end::{Account, SendingEnd, Session};
 use std::alloc::Global;
@@ -49,15 +48,14 @@ impl LiveUnit {
     ghost use Rattle.live_units.specs.Standing.{UnitPasses, UnitStays, UnitLoses, UnitSends};
     ghost use Rattle.live_units.specs.Standing.{IsBookText};
 
-    /// A unit to which nothing came yet, whose client holds at most `limit` messages, from 1 to
-    /// 65,536. It logs in with the account.
+    /// A unit to which nothing came yet, whose client holds at most `limit` messages. It logs in
+    /// with the account.
     pub fn make(
         alloc: Global,
         unit: u8,
         account: &Account,
-        limit: u32,
+        limit: HoldLimit,
     ) -> Result<LiveUnit, OutOfMemory>
-        requires { (1 ≤ limit) × (limit ≤ most_held) }
         ensures stands { IfOk result (λ u. UnitStands
             (record { unit = unit; account = account.now; hold = limit }) u []) }
         ensures waits { IfOk result (λ u. NoneWaits u.end) }

@@ -2,7 +2,6 @@
 
 ghost use Rattle.std.specs.Prelude.{◌≡◌, ◌≤◌, [], ℕ, List, OnOk, OnErr, IfOk, IsErr, Err, Option};
 ghost use Rattle.std.specs.Prelude.{◌≢◌, ◌<◌, ◌+◌, ◌^◌, IsOk, None, length, slice_get, false};
-ghost use Rattle.pitch_fields.specs.Limits.{most_held};
 ghost use Rattle.pitch_io.specs.Putting.{Grows};
 ghost use Rattle.client_end.specs.Came.{Heard, Second};
 ghost use Rattle.sending_end.specs.Waiting.{made, ended};
@@ -24,7 +23,7 @@ use crate::place::{
 };
 use crate::unit::{LiveUnit, Taken};
 use feed_lines::LINE;
-use pitch_fields::OutOfMemory;
+use pitch_fields::{HoldLimit, OutOfMemory};
 use pitch_io::Sink;
 use sending_end::{Account, Passed, Session};
 use std::alloc::Global;
@@ -47,9 +46,8 @@ fn listen_to(
     table: &mut UnitTable<LiveUnit>,
     units: &[u8],
     account: &Account,
-    limit: u32,
+    limit: HoldLimit,
 ) -> Result<(), OutOfMemory>
-    requires limit { (1 ≤ limit) × (limit ≤ most_held) }
     requires none { AtEach (λ unit place. place ≡ None) table.old.places }
     ensures { OnOk result (AtEach (IsNewAt
         (record { units = units.now; account = account.now; hold = limit }))
@@ -87,15 +85,14 @@ fn print_books<O: Sink>(
 
 impl LiveUnits {
     /// Listens to the named units, or to all where none is named; nothing came to them yet. The
-    /// client of each holds at most `limit` messages, from 1 to 65,536, for which it takes memory
-    /// here, and each logs in with the account.
+    /// client of each holds at most `limit` messages, for which it takes memory here, and each logs
+    /// in with the account.
     pub fn make(
         alloc: Global,
         units: &[u8],
         account: &Account,
-        limit: u32,
+        limit: HoldLimit,
     ) -> Result<LiveUnits, OutOfMemory>
-        requires { (1 ≤ limit) × (limit ≤ most_held) }
         ensures stand { IfOk result (λ l. (start : Option (List ℕ)) → LiveStands
             (record { units = units.now; account = account.now; hold = limit })
             start start l []) }

@@ -6,14 +6,12 @@ ghost use Rattle.pitch_fields.specs.Limits.{most_held};
 ghost use Rattle.venue_units.specs.Units.{EachKeeps};
 ghost use Rattle.live_venue.specs.Standing.{CanServe};
 
+use pitch_fields::MOST_HELD;
 use std::marker::Model;
 use venue_end::VenueSetup;
 
 /// How many units a venue serves at most.
 const MOST_UNITS: usize = 64;
-
-/// How many messages a proxy keeps at most.
-const MOST_KEPT: u32 = 65536;
 
 /// The units that are served, by their indexes from 0.
 #[derive(Drop)]
@@ -37,7 +35,7 @@ impl Model for ServeSetup {
 fn can_keep(setup: &VenueSetup) -> bool
     ensures { IsTrue result ↔ ((1 ≤ setup.now.kept) × (setup.now.kept ≤ most_held)) }
 {
-    setup.kept > 0 && setup.kept <= MOST_KEPT
+    setup.kept > 0 && setup.kept <= MOST_HELD
 }
 
 // Whether each proxy does.

@@ -36,7 +36,7 @@ use crate::shared::SharedMarket;
 use client_core::UnitClient;
 use client_links::{Account, GapLink, SpinLink};
 use feed_lines::append_unit_line;
-use pitch_fields::OutOfMemory;
+use pitch_fields::{HoldLimit, OutOfMemory};
 use pitch_io::{LinkEnd, Net, NetDone};
 use pitch_model::Status;
 use pitch_text::{DEFAULT_HOLD, DEFAULT_KEPT};
@@ -74,6 +74,16 @@ fn room(alloc: Global) -> Result<Vec<u8>, OutOfMemory>
     Ok(vec![in alloc; 0u8; 65535]?)
 }
 
+// How many messages the client holds.
+fn demo_hold() -> HoldLimit
+    ensures { result ≡ hold_limit }
+{
+    let Some(limit) = HoldLimit::of(DEFAULT_HOLD) else {
+        unreachable!();
+    };
+    limit
+}
+
 // The ends are made; both links say their logins.
 fn make_ends(
     alloc: Global,
@@ -90,7 +100,7 @@ fn make_ends(
     let spin_link = SpinLink::make(alloc, 1, &account(), spin_login)?;
     let proxy = Proxy::make(alloc, account())?;
     let spin = spin_server(alloc)?;
-    let client = UnitClient::make(alloc, DEFAULT_HOLD)?;
+    let client = UnitClient::make(alloc, demo_hold())?;
     Ok(Ends {
         alloc,
         proxy,

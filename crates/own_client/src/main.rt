@@ -13,7 +13,7 @@ ghost use Rattle.client_core.specs.Tracks.{Tracks, Keeps};
 ghost use Rattle.unit_clients.specs.Clients.{HaveHeard};
 
 use client_core::{Status, UnitClient};
-use pitch_fields::{Price, Side, Symbol};
+use pitch_fields::{HoldLimit, Price, Side, Symbol};
 use std::alloc::Global;
 use std::io::Read;
 use std::{fmt, io};
@@ -101,7 +101,10 @@ fn print_unit(rt: &impl Print, unit: usize, client: &UnitClient) -> io::Result<(
 
 fn main(rt: HostRuntime) -> anyhow::Result<()> {
     let alloc = rt.alloc();
-    let mut units = Units::make(alloc, HOLD)?;
+    let Some(limit) = HoldLimit::of(HOLD) else {
+        unreachable!();
+    };
+    let mut units = Units::make(alloc, limit)?;
     follow(alloc, &mut units, &mut rt.stdin())?;
     for (unit, slot) in units.clients().iter().enumerate() {
         if let Some(client) = slot {

@@ -2,6 +2,7 @@
 use Rattle.std.proofs.Common.{◌≡◌, ◌≤◌, ◌<◌, ◌∙◌, ℕ, true, false, List, Option, None, Some, Ok, Err, inl, inr, slice_get, refl, ap, arith}
 use Rattle.std.proofs.lemmas.Bool.Decides.{nat_tests}
 use Rattle.std.specs.Option.{option_flatten, IsSome}
+use Rattle.pitch_fields.specs.Limits.{most_held}
 use Rattle.unit_packets.specs.Cutting.{is_truncated}
 use Rattle.unit_packets.specs.Judging.{judge}
 use Rattle.unit_packets.specs.declared.header.Header.{Header}
@@ -14,13 +15,13 @@ pub none_of : {X : Type 0} (o : Option X) → (IsSome o → ⊥) → o ≡ None
 none_of None none = refl
 none_of (Some x) none = absurd (none refl)
 
-pub good_hold : (hold : ℕ) → 1 ≤ hold → hold ≤ 65536 → hold_code hold ≡ 0
+pub good_hold : (hold : ℕ) → 1 ≤ hold → hold ≤ most_held → hold_code hold ≡ 0
 good_hold hold some few = grind (arith, nat_tests)
 
 pub no_hold : (hold : ℕ) → hold ≡ 0 → hold_code hold ≡ 4
 no_hold hold none = grind (arith, nat_tests)
 
-pub long_hold : (hold : ℕ) → 65536 < hold → hold_code hold ≡ 4
+pub long_hold : (hold : ℕ) → most_held < hold → hold_code hold ≡ 4
 long_hold hold many = grind (arith, nat_tests)
 
 pub client_is : (units : Units) (unit : ℕ) (client : UnitClient) → slice_get units.places unit ≡ Some (Some client) → client_code (client_of units unit) ≡ 0

@@ -9,9 +9,10 @@ ghost use Rattle.pitch_c.specs.Ends.{Connects, Cuts, Hears, IsOpened, Sends, Tak
 ghost use Rattle.pitch_c.specs.Ends.{TellConnection, TellEndBest, TellEndOrder, TellEndStatus};
 ghost use Rattle.pitch_c.specs.Ends.{open_code, session_code, session_of};
 
-use crate::codes::{BAD_HOLD, BAD_UNIT, CLOSED, IS_OPEN, NO_MEMORY, NO_SESSION, NO_SIDE, OK};
+use crate::codes::{BAD_UNIT, CLOSED, IS_OPEN, NO_MEMORY, NO_SESSION, NO_SIDE, OK};
 use crate::end_handle::{End, opened, take};
 use crate::end_reports::{DatagramOut, SentOut};
+use crate::hold::hold_of;
 use crate::reports::{BestOut, OrderOut, StatusOut, best_out, order_out, status_out};
 use pitch_fields::{Side, Symbol};
 use sending_end::{Account, SendingEnd, Session};
@@ -39,10 +40,8 @@ fn boxed(alloc: Global, unit: u32, account: &Account, hold: u32) -> Result<Box<S
     if unit == 0 || unit > 255 {
         return Err(BAD_UNIT);
     }
-    if hold == 0 || hold > 65536 {
-        return Err(BAD_HOLD);
-    }
-    let Ok(end) = SendingEnd::make(alloc, unit as u8, account, hold) else {
+    let limit = hold_of(hold)?;
+    let Ok(end) = SendingEnd::make(alloc, unit as u8, account, limit) else {
         return Err(NO_MEMORY);
     };
     match Box::new(alloc, end) {

@@ -7,6 +7,7 @@ mod end_handle;
 mod end_reports;
 mod ends;
 mod handle;
+mod hold;
 mod levels;
 mod lists;
 mod quoting;
@@ -27,8 +28,9 @@ ghost use Rattle.pitch_c.specs.Clients.{TellStatus, TellBest, TellOrder, TellOrd
 ghost use Rattle.pitch_c.specs.Clients.{TellLevel, TellLevels, HasOrders, HasSide};
 
 use crate::asking::{hear_first, reserve_for, tell_best, tell_order, tell_status};
-use crate::codes::{ABI, BAD_HOLD, CLOSED, IS_OPEN, NO_MEMORY, OK};
+use crate::codes::{ABI, CLOSED, IS_OPEN, NO_MEMORY, OK};
 use crate::handle::{Client, opened, take};
+use crate::hold::hold_of;
 use crate::levels::{tell_level, tell_levels};
 use crate::lists::{tell_orders, tell_states};
 use crate::quoting::hear_quoted_first;
@@ -43,10 +45,8 @@ fn boxed(alloc: Global, hold: u32, levels: bool) -> Result<Box<LeveledUnits>, u3
     ensures answer { IfErr result (λ n. Answers (hold_code hold) n) }
     ensures err { IfErr result (λ n. 1 ≤ n) }
 {
-    if hold == 0 || hold > 65536 {
-        return Err(BAD_HOLD);
-    }
-    let Ok(units) = LeveledUnits::make(alloc, hold, levels) else {
+    let limit = hold_of(hold)?;
+    let Ok(units) = LeveledUnits::make(alloc, limit, levels) else {
         return Err(NO_MEMORY);
     };
     match Box::new(alloc, units) {

@@ -10,6 +10,7 @@ use live_recovery::{Account, Counts, Peer, RecoverError, RecoverSetup, Session, 
 use live_sockets::LiveSockets;
 use live_words::{ListenWords, ServerWords};
 use patient_io::Patient;
+use pitch_fields::HoldLimit;
 use pitch_io::StdSink;
 use std::alloc::{AllocError, Global};
 use std::net::SocketAddr;
@@ -115,7 +116,10 @@ pub fn ask(rt: &HostRuntime, asked: &ListenWords) -> Result<u8, AllocError> {
     let Ok(lines) = u16::try_from(ports.len()) else {
         return Ok(say_usage(rt));
     };
-    match RecoverSetup::make(lines, peers, units, account, asked.hold) {
+    let Some(hold) = HoldLimit::of(asked.hold) else {
+        return Ok(say_usage(rt));
+    };
+    match RecoverSetup::make(lines, peers, units, account, hold) {
         Some(setup) => recover_from(rt, asked, &ports, &addrs, &setup),
         None => Ok(say_usage(rt)),
     }

@@ -5,6 +5,7 @@ use line_sockets::{LineSockets, Port};
 use live_listen::{Counts, ListenError, ListenSetup, listen};
 use live_words::{LineWords, ListenWords};
 use patient_io::Patient;
+use pitch_fields::HoldLimit;
 use pitch_io::StdSink;
 use std::alloc::{AllocError, Global};
 
@@ -54,7 +55,10 @@ pub fn hear(rt: &HostRuntime, asked: &ListenWords) -> Result<u8, AllocError> {
     let Ok(lines) = u16::try_from(ports.len()) else {
         return Ok(say_usage(rt));
     };
-    match ListenSetup::make(lines, units, asked.hold) {
+    let Some(hold) = HoldLimit::of(asked.hold) else {
+        return Ok(say_usage(rt));
+    };
+    match ListenSetup::make(lines, units, hold) {
         Some(setup) => Ok(listen_to(rt, asked, &ports, &setup)),
         None => Ok(say_usage(rt)),
     }

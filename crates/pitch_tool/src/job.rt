@@ -1,10 +1,12 @@
 //! From a form of the words to the job that it asks for.
 
 ghost use Rattle.std.specs.Prelude.{◌≡◌};
+ghost use Rattle.pitch_fields.specs.Limits.{IsHoldLimit};
 ghost use Rattle.pitch_words.specs.layers.Commands.{IsInRange};
 ghost use Rattle.pitch_tool.specs.Jobs.{job_of as the_job};
 ghost use Rattle.pitch_tool.specs.layers.Doing.{CanDo};
 
+use pitch_fields::HoldLimit;
 use pitch_words::Form;
 use storm_replay::Storm;
 use stream_print::{Carrier, StreamForm};
@@ -19,7 +21,7 @@ pub enum TextForm {
 }
 
 /// What a form of the words asks for.
-#[derive(Clone, Copy, PartialEq, Eq)]
+#[derive(Clone, Copy)]
 pub enum Job {
     /// A stream of blocks is read, bare or in a capture, and printed as it comes.
     Stream(Carrier, StreamForm),
@@ -35,6 +37,42 @@ pub enum Job {
     Demo { number: u64, count: u32 },
 }
 
+// The limit of a hold of so many messages.
+fn limit_of(hold: u32) -> HoldLimit
+    requires { IsHoldLimit hold }
+    ensures { result ≡ hold }
+{
+    let Some(limit) = HoldLimit::of(hold) else {
+        unreachable!();
+    };
+    limit
+}
+
+// The forms of a stream, each with a hold of so many places.
+fn follow(hold: u32) -> StreamForm
+    requires { IsHoldLimit hold }
+    ensures { result ≡ StreamForm.Follow hold }
+{
+    let hold = limit_of(hold);
+    StreamForm::Follow { hold }
+}
+
+fn relay(hold: u32) -> StreamForm
+    requires { IsHoldLimit hold }
+    ensures { result ≡ StreamForm.Relay hold }
+{
+    let hold = limit_of(hold);
+    StreamForm::Relay { hold }
+}
+
+fn quotes(hold: u32) -> StreamForm
+    requires { IsHoldLimit hold }
+    ensures { result ≡ StreamForm.Quotes hold }
+{
+    let hold = limit_of(hold);
+    StreamForm::Quotes { hold }
+}
+
 /// The job of a form.
 pub fn job_of(form: Form) -> Job
     requires { IsInRange form }
@@ -42,10 +80,8 @@ pub fn job_of(form: Form) -> Job
     ensures can { CanDo result }
 {
     match form {
-        Form::Follow { hold } => Job::Stream(Carrier::Bare, StreamForm::Follow { hold }),
-        Form::FollowCapture { port, hold } => {
-            Job::Stream(Carrier::Capture { port }, StreamForm::Follow { hold })
-        }
+        Form::Follow { hold } => Job::Stream(Carrier::Bare, follow(hold)),
+        Form::FollowCapture { port, hold } => Job::Stream(Carrier::Capture { port }, follow(hold)),
         Form::Show => Job::Stream(Carrier::Bare, StreamForm::Show),
         Form::Pack { unit } => Job::Text(TextForm::Pack { unit }),
         Form::Replay { workers } => Job::Text(TextForm::Replay { workers }),
@@ -72,8 +108,8 @@ pub fn job_of(form: Form) -> Job
             count,
         },
         Form::Demo { number, count } => Job::Demo { number, count },
-        Form::Relay { hold } => Job::Stream(Carrier::Bare, StreamForm::Relay { hold }),
-        Form::Quotes { hold } => Job::Stream(Carrier::Bare, StreamForm::Quotes { hold }),
+        Form::Relay { hold } => Job::Stream(Carrier::Bare, relay(hold)),
+        Form::Quotes { hold } => Job::Stream(Carrier::Bare, quotes(hold)),
         Form::Audit => Job::Audit,
     }
 }

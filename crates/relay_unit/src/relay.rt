@@ -7,7 +7,7 @@ use crate::hearing::hear_merged;
 use crate::outlet::Outlet;
 use client_core::{Change, Item, UnitClient};
 use order_book::UnitBook;
-use pitch_fields::OutOfMemory;
+use pitch_fields::{HoldLimit, OutOfMemory};
 use pitch_messages::RawList;
 use std::alloc::Global;
 use unit_packets::{BlockView, LAST_SEQUENCE};
@@ -55,9 +55,8 @@ pub struct Relay {
 }
 
 impl Relay {
-    ghost use Rattle.std.specs.Prelude.{◌≡◌, ◌+◌, ◌≤◌, ℕ, [], length};
+    ghost use Rattle.std.specs.Prelude.{◌≡◌, ◌+◌, ℕ, [], length};
     ghost use Rattle.std.specs.Prelude.{OnOk, OnErr, IfOk, IfErr, Err};
-    ghost use Rattle.pitch_fields.specs.Limits.{most_held};
     ghost use Rattle.unit_packets.specs.Blocks.{StaysWithin};
     ghost use Rattle.pitch_model.specs.Book.{empty_book};
     ghost use Rattle.relay_unit.specs.layers.Calls.{StandsAfter, AppendsRelayed, OutrunsAfter};
@@ -73,8 +72,7 @@ impl Relay {
 
     /// A relay that has sent nothing, holds at most `limit` messages and counts its Spin Server as
     /// up.
-    pub fn make(alloc: Global, unit: u8, limit: u32) -> Result<Relay, OutOfMemory>
-        requires { (1 ≤ limit) × (limit ≤ most_held) }
+    pub fn make(alloc: Global, unit: u8, limit: HoldLimit) -> Result<Relay, OutOfMemory>
         ensures stands { IfOk result (λ relay. Stands relay limit first_heard) }
         // It has heard nothing, and so no more messages than any number.
         ensures heard { IfOk result (λ relay. (count : ℕ) → HasHeard relay count) }

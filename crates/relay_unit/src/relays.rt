@@ -1,7 +1,6 @@
 //! The relays of a whole stream, one for each unit that a block names.
 
-ghost use Rattle.std.specs.Prelude.{◌≡◌, ◌≤◌, ◌++◌, [], OnOk, OnErr, IfOk, IfErr};
-ghost use Rattle.pitch_fields.specs.Limits.{most_held};
+ghost use Rattle.std.specs.Prelude.{◌≡◌, ◌++◌, [], OnOk, OnErr, IfOk, IfErr};
 ghost use Rattle.relay_unit.specs.layers.AnyRelays.{HaveSent, AppendAny, AppendsAnyAt};
 ghost use Rattle.relay_unit.specs.layers.Calls.{HaveRelayedAfter, AppendVenues, AreChanged};
 ghost use Rattle.relay_unit.specs.layers.Calls.{OutrunVenues, SpendFew};
@@ -12,7 +11,7 @@ ghost use Rattle.relay_unit.specs.Relays.{HaveRelayed};
 
 use crate::relay::{Relay, RelayError};
 use client_core::Change;
-use pitch_fields::OutOfMemory;
+use pitch_fields::{HoldLimit, OutOfMemory};
 use std::alloc::Global;
 use std::marker::Model;
 use unit_clients::UnitTable;
@@ -40,12 +39,11 @@ impl Model for Relays {
 // Hands a block to the relay at its unit's place, which is made where there is none.
 fn hear_at(
     alloc: Global,
-    limit: u32,
+    limit: HoldLimit,
     slot: &mut Option<Relay>,
     block: &BlockView<'_>,
     out: &mut Vec<u8>,
 ) -> Result<Change, RelayError>
-    requires { (1 ≤ limit) × (limit ≤ most_held) }
     ensures stands { OnOk result (StandsThere limit slot.old slot.new block.now) }
     ensures sends { OnOk result
         (AppendsThere limit slot.old block.now out.old.items out.new.items) }
@@ -77,9 +75,8 @@ fn hear_at(
 }
 
 impl Relays {
-    /// No unit has a relay yet. Each will hold at most `limit` messages, from 1 to 65,536.
-    pub fn make(alloc: Global, limit: u32) -> Result<Relays, OutOfMemory>
-        requires { (1 ≤ limit) × (limit ≤ most_held) }
+    /// No unit has a relay yet. Each will hold at most `limit` messages.
+    pub fn make(alloc: Global, limit: HoldLimit) -> Result<Relays, OutOfMemory>
         ensures limit { IfOk result (λ relays. relays.limit ≡ limit) }
         ensures heard { IfOk result (λ relays. HaveRelayed relays []) }
         // No unit's relay has sent a message.

@@ -1,10 +1,9 @@
 //! The end, what it says kept until it is taken.
 
-ghost use Rattle.std.specs.Prelude.{◌≡◌, ◌≤◌, ◌+◌, ◌∷◌, ◌++◌, [], ℕ, List, None, OnOk, OnErr, IfOk};
+ghost use Rattle.std.specs.Prelude.{◌≡◌, ◌+◌, ◌∷◌, ◌++◌, [], ℕ, List, None, OnOk, OnErr, IfOk};
 ghost use Rattle.std.specs.Prelude.{IsOk, is_some, length, min, take, drop, if◌then◌else◌};
 ghost use Rattle.std.specs.List.{AllByRecursion};
 ghost use Rattle.pitch_fields.specs.Fields.{AreBytes};
-ghost use Rattle.pitch_fields.specs.Limits.{most_held};
 ghost use Rattle.pitch_model.specs.Book.{book_after};
 ghost use Rattle.pitch_model.specs.History.{Raw};
 ghost use Rattle.pitch_model.specs.Honest.{Honest};
@@ -18,7 +17,7 @@ use crate::queue::{drop_sent, keep_where, take_front};
 use crate::session::Session;
 use client_end::{Account, Change, ClientEnd, Status};
 use order_book::UnitBook;
-use pitch_fields::OutOfMemory;
+use pitch_fields::{HoldLimit, OutOfMemory};
 use std::alloc::Global;
 use unit_packets::{BlockView, Blocks};
 
@@ -56,9 +55,8 @@ impl SendingEnd {
         alloc: Global,
         unit: u8,
         account: &Account,
-        limit: u32,
+        limit: HoldLimit,
     ) -> Result<SendingEnd, OutOfMemory>
-        requires { (1 ≤ limit) × (limit ≤ most_held) }
         ensures stands { IfOk result (λ e. SendingStands
             (record { unit = unit; account = account.now; hold = limit }) e []) }
         ensures waits { IfOk result (λ e. NoneWaits e) }

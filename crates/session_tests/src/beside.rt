@@ -2,6 +2,7 @@
 
 use crate::venue_ends::made;
 use client_end::{ClientEnd, Status};
+use pitch_fields::HoldLimit;
 use pitch_text::Command;
 use served_laws::book_beside;
 use std::alloc::Global;
@@ -19,7 +20,8 @@ fn client_of(rt: &impl Abort, alloc: Global) -> ClientEnd {
         user: *b"FEED",
         password: *b"PITCH     ",
     };
-    ClientEnd::make(alloc, 1, &account, 16).expect(rt, "memory")
+    let limit = HoldLimit::of(16).expect(rt, "a limit");
+    ClientEnd::make(alloc, 1, &account, limit).expect(rt, "memory")
 }
 
 // The datagram of the second 33 is lost, and the heartbeat behind it comes.

@@ -4,6 +4,7 @@ ghost use Rattle.std.specs.Prelude.{◌<◌};
 ghost use Rattle.heard_items.specs.Changes.{IsItem};
 
 use client_core::{Ask, Change, ImageEnd, Item, UnitClient, item_of_block};
+use pitch_fields::HoldLimit;
 use pitch_messages::{Raw, RawList};
 use std::alloc::Global;
 use std::process::Abort;
@@ -42,7 +43,8 @@ fn applied_after(
 }
 
 fn client_of<R: Abort + AllocGlobal>(rt: &R) -> UnitClient {
-    UnitClient::make(rt.alloc(), 4).expect(rt, "memory")
+    let limit = HoldLimit::of(4).expect(rt, "a limit");
+    UnitClient::make(rt.alloc(), limit).expect(rt, "memory")
 }
 
 // A client has no order at first, and takes room for two.

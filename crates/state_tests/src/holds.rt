@@ -1,8 +1,15 @@
 //! Holds: what becomes of each message that is offered, and what is left after a jump.
 
 use hold_buffer::{Hold, Offer};
+use pitch_fields::HoldLimit;
 use pitch_messages::Raw;
 use std::process::Abort;
+
+// A hold of so many places, in ample memory.
+fn hold_of<R: Abort + AllocGlobal>(rt: &R, places: u32) -> Hold {
+    let limit = HoldLimit::of(places).expect(rt, "a limit");
+    Hold::make(rt.alloc(), limit).expect(rt, "memory")
+}
 
 // Offers a message under each of some sequences below 100, and compares what becomes of it.
 fn offer_all(rt: &impl Abort, hold: &mut Hold, offers: &[(u32, Offer)]) {
@@ -26,7 +33,7 @@ fn pops_one(hold: &mut Hold) -> bool {
 
 #[test]
 fn a_full_hold_keeps_what_overflows_it(rt: HostRuntime) {
-    let mut hold = Hold::make(rt.alloc(), 2).expect(&rt, "memory");
+    let mut hold = hold_of(&rt, 2);
     let offers = [
         (3, Offer::Kept),
         (3, Offer::Repeat),
@@ -42,7 +49,7 @@ fn a_full_hold_keeps_what_overflows_it(rt: HostRuntime) {
 
 #[test]
 fn a_jump_drops_what_it_passes(rt: HostRuntime) {
-    let mut hold = Hold::make(rt.alloc(), 3).expect(&rt, "memory");
+    let mut hold = hold_of(&rt, 3);
     let offers = [(9, Offer::Kept), (5, Offer::Kept), (7, Offer::Kept)];
     offer_all(&rt, &mut hold, &offers);
     assert!(rt; (hold.len(), hold.first()) == (3, Some(5)));

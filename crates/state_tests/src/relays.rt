@@ -1,5 +1,6 @@
 //! A relay that takes an image, and the datagrams that it sends from there on.
 
+use pitch_fields::HoldLimit;
 use relay_unit::{Outlet, Relay};
 use std::alloc::Global;
 use std::process::Abort;
@@ -36,7 +37,8 @@ fn hear_all(rt: &impl Abort, relay: &mut Relay, blocks: &[&[u8]], out: &mut impl
 }
 
 fn relay_of<R: Abort + AllocGlobal>(rt: &R) -> Relay {
-    Relay::make(rt.alloc(), 1, 16).expect(rt, "memory")
+    let limit = HoldLimit::of(16).expect(rt, "a limit");
+    Relay::make(rt.alloc(), 1, limit).expect(rt, "memory")
 }
 
 // Whether the image and the deletion were sent, in a datagram each.

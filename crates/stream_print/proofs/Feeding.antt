@@ -10,7 +10,7 @@ use Rattle.pitch_model.specs.History.{Raw}
 use Rattle.feed_lines.specs.Follow.{lines_after, books_of}
 use Rattle.relay_unit.proofs.Bytes.{heard_within}
 use Rattle.stream_print.specs.Carriers.{carried_blocks, with_counts}
-use Rattle.stream_print.specs.layers.Holding.{Suits}
+use Rattle.stream_print.specs.layers.Suiting.{Suits}
 use Rattle.stream_print.specs.Told.{between}
 use Rattle.stream_print.specs.declared.carrier.Carrier.{Carrier}
 use Rattle.stream_print.specs.declared.stream_form.StreamForm.{StreamForm}

@@ -8,7 +8,7 @@ use Rattle.stream_print.specs.Told.{between}
 use Rattle.stream_print.specs.declared.carrier.Carrier.{Carrier}
 use Rattle.stream_print.specs.declared.stream_form.StreamForm.{StreamForm}
 use Rattle.stream_print.specs.Carriers.{carried_blocks}
-use Rattle.stream_print.specs.layers.Holding.{Suits}
+use Rattle.stream_print.specs.layers.Suiting.{Suits}
 use Rattle.stream_print.specs.layers.Feeding.{Fed}
 use Rattle.stream_print.specs.Inputs.{lasting_trouble, StopsSoon, WritesSome, WritesTexts}
 use Rattle.stream_print.specs.Knowing.{task_form, HasPrinted}

@@ -2,5 +2,5 @@
 pub mod Books
 pub mod Failures
 pub mod Feeding
-pub mod Holding
+pub mod Suiting
 pub mod Pieces

@@ -25,14 +25,12 @@ impl Printer {
     ghost use Rattle.std.specs.Prelude.{IfOk, IfErr, Err};
     ghost use Rattle.unit_packets.specs.Blocks.{Block};
     ghost use Rattle.stream_print.specs.Sinks.{PagePrintsSuch, PutsPrefixSuch, CountsFault};
-    ghost use Rattle.stream_print.specs.layers.Holding.{CanHold};
     ghost use Rattle.stream_print.specs.Knowing.{task_form, HasPrinted};
     ghost use Rattle.stream_print.specs.Printing.{PrintsBlocks, FailsBlocks};
     ghost use Rattle.stream_print.specs.TextLaws.{IsEnd, IsPrefixOfEnd};
 
     /// Nothing was printed yet of what the form asks for.
     pub fn make(alloc: Global, form: StreamForm) -> Result<Printer, OutOfMemory>
-        requires { CanHold form }
         ensures known { IfOk result (λ p. HasPrinted p []) }
         ensures form { IfOk result (λ p. task_form p.task ≡ form) }
         ensures page { IfOk result (λ p. p.page.text ≡ []) }

@@ -7,7 +7,7 @@ ghost use Rattle.stream_print.specs.Sinks.{CountsFault};
 ghost use Rattle.stream_print.specs.layers.Feeding.{Fed, StreamFeeds};
 ghost use Rattle.stream_print.specs.Inputs.{stream_limit, lasting_trouble, StopsSoon, StreamEnds};
 ghost use Rattle.stream_print.specs.Told.{between, told, TakesAtMost};
-ghost use Rattle.stream_print.specs.layers.Holding.{CanHold, Suits};
+ghost use Rattle.stream_print.specs.layers.Suiting.{Suits};
 ghost use Rattle.stream_print.specs.Knowing.{task_form};
 ghost use Rattle.stream_print.specs.Readers.{rest_size};
 ghost use Rattle.stream_print.specs.declared.carrier.Carrier.{Carrier};
@@ -103,7 +103,6 @@ pub fn print_stream<I: Source, O: Sink>(
     input: &mut I,
     out: &mut O,
 ) -> Result<(), StreamFailure>
-    requires hold { CanHold form }
     // A relay, behind whose datagrams no line of packets can stand, reads bare blocks.
     requires suits { Suits carrier form }
     // How the stream ended says what was read and what was written.

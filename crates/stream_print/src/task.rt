@@ -5,7 +5,6 @@ ghost use Rattle.std.specs.Prelude.{Err};
 ghost use Rattle.unit_packets.specs.Blocks.{Block};
 ghost use Rattle.feed_lines.specs.Follow.{line_after};
 ghost use Rattle.unit_clients.specs.Clients.{HaveHeard};
-ghost use Rattle.stream_print.specs.layers.Holding.{CanHold};
 ghost use Rattle.stream_print.specs.Knowing.{task_form, Knows};
 ghost use Rattle.stream_print.specs.Printing.{PrintsBlock, FailsBlock};
 ghost use Rattle.stream_print.specs.Sinks.{PagePrints, PagePrintsSuch, PutsPrefix, PutsPrefixSuch};
@@ -41,7 +40,6 @@ pub enum Task {
 
 /// The task of a form.
 pub fn make_task(alloc: Global, form: StreamForm) -> Result<Task, OutOfMemory>
-    requires { CanHold form }
     ensures form { IfOk result (λ task. task_form task ≡ form) }
     ensures knows { IfOk result (λ task. Knows task []) }
 {

@@ -1,12 +1,11 @@
 //! A table with a place for each of the 256 units that a header can name.
 
-ghost use Rattle.std.specs.Prelude.{◌≡◌, ◌≤◌, ℕ, Option, Some, None, IfOk, length, slice_get};
+ghost use Rattle.std.specs.Prelude.{◌≡◌, ℕ, Option, Some, None, IfOk, length, slice_get};
 ghost use Rattle.std.specs.Borrow.{sem};
-ghost use Rattle.pitch_fields.specs.Limits.{most_held};
 ghost use Rattle.unit_clients.specs.layers.Lending.{LendsPlace};
 ghost use Rattle.unit_clients.specs.Tables.{AtEach};
 
-use pitch_fields::OutOfMemory;
+use pitch_fields::{HoldLimit, OutOfMemory};
 use std::alloc::Global;
 use std::marker::Model;
 use unit_packets::BlockView;
@@ -18,13 +17,12 @@ const UNITS: usize = 256;
 /// its client, say. Each of these holds at most so many messages that came too early.
 #[derive(Drop)]
 pub struct UnitTable<T> {
-    limit: u32,
+    limit: HoldLimit,
     places: Vec<Option<T>>,
 }
 
 impl<T> Model for UnitTable<T> {
-    ghost use Rattle.std.specs.Prelude.{◌≡◌, ◌≤◌, length};
-    ghost use Rattle.pitch_fields.specs.Limits.{most_held};
+    ghost use Rattle.std.specs.Prelude.{◌≡◌, length};
     ghost use Rattle.unit_clients.specs.Tables.{UnitTable, table_code};
 
     ghost Value = { UnitTable T };
@@ -33,8 +31,7 @@ impl<T> Model for UnitTable<T> {
 
     ghost view = { λ t. record { limit = t.limit; places = t.places.items } };
 
-    ghost invariant = { λ t. (1 ≤ t.limit) × (t.limit ≤ most_held)
-        × (length t.places.items ≡ 256) };
+    ghost invariant = { λ t. length t.places.items ≡ 256 };
 }
 
 // A place for each unit, all of them empty.
@@ -51,11 +48,10 @@ fn empty_places<T: Drop>(alloc: Global) -> Result<Vec<Option<T>>, OutOfMemory>
 }
 
 impl<T> UnitTable<T> {
-    /// All places are empty. What comes there will hold at most `limit` messages, from 1 to 65,536.
-    pub fn make(alloc: Global, limit: u32) -> Result<UnitTable<T>, OutOfMemory>
+    /// All places are empty. What comes there will hold at most `limit` messages.
+    pub fn make(alloc: Global, limit: HoldLimit) -> Result<UnitTable<T>, OutOfMemory>
     where
         T: Drop,
-        requires { (1 ≤ limit) × (limit ≤ most_held) }
         ensures limit { IfOk result (λ table. table.limit ≡ limit) }
         ensures none { IfOk result (λ table. AtEach (λ unit place. place ≡ None) table.places) }
     {
@@ -65,9 +61,8 @@ impl<T> UnitTable<T> {
 
     /// How many messages each of those in the places holds at most.
     #[inline]
-    pub fn limit(&self) -> u32
+    pub fn limit(&self) -> HoldLimit
         ensures value { result ≡ self.now.limit }
-        ensures within { (1 ≤ result) × (result ≤ most_held) }
     {
         self.limit
     }

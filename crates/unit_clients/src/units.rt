@@ -3,7 +3,6 @@
 ghost use Rattle.std.specs.Prelude.{◌≡◌, ◌≤◌, ℕ, List, [], ◌∷◌, OnOk, OnErr, IfOk, IsOk, length};
 ghost use Rattle.std.specs.Prelude.{IfSome};
 ghost use Rattle.std.specs.Option.{IsSome, IsSomeAnd};
-ghost use Rattle.pitch_fields.specs.Limits.{most_held};
 ghost use Rattle.unit_packets.specs.Blocks.{Block};
 ghost use Rattle.pitch_model.specs.History.{Raw, Entry};
 ghost use Rattle.pitch_model.specs.Honest.{Honest};
@@ -19,7 +18,7 @@ ghost use Rattle.unit_clients.specs.Room.{HearsFreely, HearFreely, HaveSpare, Ke
 
 use crate::table::UnitTable;
 use client_core::{Change, UnitClient};
-use pitch_fields::OutOfMemory;
+use pitch_fields::{HoldLimit, OutOfMemory};
 use std::alloc::Global;
 use std::marker::Model;
 use unit_packets::BlockView;
@@ -62,11 +61,10 @@ fn hear(client: &mut UnitClient, block: &BlockView<'_>) -> Result<Change, OutOfM
 #[inline]
 fn hear_at(
     alloc: Global,
-    limit: u32,
+    limit: HoldLimit,
     slot: &mut Option<UnitClient>,
     block: &BlockView<'_>,
 ) -> Result<Change, OutOfMemory>
-    requires { (1 ≤ limit) × (limit ≤ most_held) }
     // Where the place was right for some blocks of a unit, the client there then stands for the
     // unit's history by them with this block after it.
     ensures tracks { OnOk result ((before : List Block) (unit : ℕ) → IsClient limit before unit
@@ -119,9 +117,8 @@ fn reserve_at(slot: &mut Option<UnitClient>, messages: u32) -> Result<(), OutOfM
 }
 
 impl Units {
-    /// No unit has a client yet. Each will hold at most `limit` messages, from 1 to 65,536.
-    pub fn make(alloc: Global, limit: u32) -> Result<Units, OutOfMemory>
-        requires { (1 ≤ limit) × (limit ≤ most_held) }
+    /// No unit has a client yet. Each will hold at most `limit` messages.
+    pub fn make(alloc: Global, limit: HoldLimit) -> Result<Units, OutOfMemory>
         ensures limit { IfOk result (λ units. units.limit ≡ limit) }
         ensures heard { IfOk result (λ units. HaveHeard units []) }
     {

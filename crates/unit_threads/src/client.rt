@@ -16,7 +16,9 @@ use crate::ends::{ClientEnds, Request};
 use crate::outbox::Outbox;
 use client_core::UnitClient;
 use crossbeam_channel::{Receiver, select};
-use drill_client::{DrillRun, KEPT, Reply, Word, begin, count_datagram, hear_reply, hear_word};
+use drill_client::{
+    DrillRun, Reply, Word, begin, count_datagram, drill_hold, hear_reply, hear_word,
+};
 use pitch_fields::OutOfMemory;
 use pitch_io::{Gate, Role, Work};
 use shared_unit::{FixedRun, Naming};
@@ -274,7 +276,7 @@ fn follow_through<J: Naming, R: DrillRun + FixedRun, W: Wait + Clock, G: Gate>(
     ensures { IfOk result (λ client. FollowsOn client drill_kept (plan R.number R.unit R.count)) }
 {
     plan_is_in_order();
-    let mut client = begin(alloc, KEPT)?;
+    let mut client = begin(alloc, drill_hold())?;
     match hear_to_end(rt, gate, course, links, &mut client) {
         Ok(()) => Ok(client),
         Err(error) => {

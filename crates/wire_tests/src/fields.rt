@@ -1,6 +1,8 @@
 //! Fields as text: numbers, prices, names, and how they are shown.
 
-use pitch_fields::{OutOfMemory, Price, Side, Symbol, name_text, number_text, price_text};
+use pitch_fields::{
+    HoldLimit, OutOfMemory, Price, Side, Symbol, name_text, number_text, price_text,
+};
 use std::alloc::{AllocError, Global};
 use std::fmt::Display;
 use std::process::Abort;
@@ -69,4 +71,14 @@ fn shown_by_display(rt: HostRuntime) {
     is_shown(&rt, rt.alloc(), &Side::Buy, "B");
     is_shown(&rt, rt.alloc(), &Symbol::from_six(*b"IB\\M  "), "IB\\x5cM");
     is_shown(&rt, rt.alloc(), &Price::from_long(6_553_500), "655.3500");
+}
+
+#[test]
+fn a_hold_has_a_place(rt: HostRuntime) {
+    for (places, is) in [(0, false), (1, true), (65_536, true), (65_537, false)] {
+        match HoldLimit::of(places) {
+            Some(limit) => assert!(rt; is && limit.places() == places),
+            None => assert!(rt; !is),
+        }
+    }
 }

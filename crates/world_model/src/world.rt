@@ -21,7 +21,7 @@ use client_core::{UnitClient, keeping_lasts_while_a_venue_accepts};
 use grp_session::GapBudget;
 use heard_items::Item;
 use line_arbiter::Arbiter;
-use pitch_fields::{OutOfMemory, Side, Symbol};
+use pitch_fields::{HoldLimit, OutOfMemory, Side, Symbol};
 use pitch_io::Line;
 use pitch_messages::ByteList;
 use pitch_model::Ask;
@@ -97,7 +97,10 @@ impl World {
         ensures fresh { IfOk result (λ world. has_failed world ≡ false) }
     {
         let market = Market::make(alloc, unit, limits.kept)?;
-        let client = UnitClient::make(alloc, limits.hold)?;
+        let Some(hold) = HoldLimit::of(limits.hold) else {
+            unreachable!();
+        };
+        let client = UnitClient::make(alloc, hold)?;
         Ok(World {
             alloc,
             unit,

@@ -1,6 +1,6 @@
 -- What each job needs so that it can be done.
 use Rattle.std.specs.Prelude.{ℕ, ◌≤◌}
-use Rattle.stream_print.specs.layers.Holding.{CanHold, Suits}
+use Rattle.stream_print.specs.layers.Suiting.{Suits}
 use Rattle.schedule_replay.specs.layers.Apart.{most_workers}
 use Rattle.storm_replay.specs.layers.Limits.{most_steps, most_units}
 use Rattle.drill_client.specs.layers.Limits.{most_drill_units, most_drilled}
@@ -32,7 +32,7 @@ IsStorm units steps = (1 ≤ units × units ≤ most_units) × (1 ≤ steps × s
 
 -- the numbers of a job lie in their ranges
 abbrev pub CanDo : Job → Type 0
-CanDo (Stream carrier form) = CanHold form × Suits carrier form
+CanDo (Stream carrier form) = Suits carrier form
 CanDo (Text form) = CanMake form
 CanDo (Storm storm workers) = IsStorm storm.units storm.steps × AreWorkers workers
 CanDo (Drill number units count) = IsDrill units count

@@ -2,7 +2,7 @@
 use Rattle.std.specs.Prelude.{◌≡◌, ℕ, ◌+◌, ◌*◌, ◌≤◌, List, [], length, reverse, Option, None}
 use Rattle.std.specs.Prelude.{Result, Ok, Err}
 use Rattle.stream_print.specs.Carriers.{carried_blocks}
-use Rattle.stream_print.specs.layers.Holding.{Suits}
+use Rattle.stream_print.specs.layers.Suiting.{Suits}
 use Rattle.stream_print.specs.Inputs.{lasting_trouble, StreamEnds, WritesTexts}
 use Rattle.stream_print.specs.Told.{Told, between}
 use Rattle.stream_print.specs.Knowing.{task_form, HasPrinted}

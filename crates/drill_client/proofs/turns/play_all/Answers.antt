@@ -21,7 +21,9 @@ commands-init c =
           subst (λ (ns : List ℕ). MarketHas c.args.market.now (record (journal_at number unit count 0 0 0) { advertised = ns })) (sym (rounds_begin count))
           (subst (λ (V : List Raw). MarketHas c.args.market.now (record (new_journal unit 4096) { messages = V })) (sym (plan_begins number unit)) c.requires.new);
       count = sym (count_begins number unit);
-      follows = subst (λ (E : List Entry). Follows c.in_ok-client.client 4096 (plan number unit count) E) (sym (history_begins number unit count)) (c.in_ok-client.ensures (plan number unit count) (c.plan_is_in_order.ensures.bytes number unit count few));
+      follows =
+          subst (λ (H : ℕ). Follows c.in_ok-client.client H (plan number unit count) (plain_history number unit count 0)) c.drill_hold.ensures
+          (subst (λ (E : List Entry). Follows c.in_ok-client.client c.drill_hold.result (plan number unit count) E) (sym (history_begins number unit count)) (c.in_ok-client.ensures (plan number unit count) (c.plan_is_in_order.ensures.bytes number unit count few)));
     }
 
 pub play-requires-clause-played : goal.play-requires-clause-played

@@ -1,5 +1,6 @@
-use Rattle.std.proofs.Common.{List, ◌++◌, refl, ap, ◌∙◌}
+use Rattle.std.proofs.Common.{ℕ, List, [], ◌++◌, refl, ap, ◌∙◌, subst}
 use Rattle.session_ends.specs.declared.role.Role.TheVariants as roles
+use Rattle.client_core.specs.Tracks.{Tracks}
 use Rattle.client_links.specs.Linking.{login_bytes}
 use Rattle.net_edge.proofs.running.make_ends.Goals as goal
 
@@ -7,7 +8,7 @@ pub returns-clause-has : goal.returns-clause-has
 returns-clause-has c = record {
   proxy = c.in_ok-proxy.ensures;
   spin = c.in_ok-spin.ensures;
-  client = record { tracks = c.in_ok-client.ensures.tracks; keeps = λ V bytes h. c.in_ok-client.ensures.keeps V };
+  client = record { tracks = subst (λ (H : ℕ). Tracks c.in_ok-client.client H []) c.demo_hold.ensures c.in_ok-client.ensures.tracks; keeps = λ V bytes h. c.in_ok-client.ensures.keeps V };
   gap_link = record {
     has = record { made = c.in_ok-gap_link.ensures.setup; stands = c.in_ok-gap_link.ensures.stands };
     cut_is = refl;

@@ -32,8 +32,8 @@ returns-in_ok-hear_datagram-in-Got-clause-steps g c = λ start run st next.
     record {
       run = run';
       stands = stands_at s start v v c.hear_datagram.new.self run' (stands_datagram s start u v c.args.self.now run st c.hear_datagram.new.self c.args.line room c.in-Got.count bytes c.in-Got.ensures.calls due hears) _;
-      next = subst (λ (n : ℕ). IsNext n c.after_datagram-self.result run') c.lines.ensures
-          (c.after_datagram-self.ensures.next run room c.in-Got.count bytes (subst (λ (n : ℕ). IsNext n c.hear_datagram.new.self.place run) (sym c.lines.ensures) (subst (λ (p : Place). IsNext s.lines p run) (sym hears.place) next)));
+      next = subst (λ (n : ℕ). IsNext n c.after_datagram-self.result run') c.lines.ensures.lines
+          (c.after_datagram-self.ensures.next run room c.in-Got.count bytes (subst (λ (n : ℕ). IsNext n c.hear_datagram.new.self.place run) (sym c.lines.ensures.lines) (subst (λ (p : Place). IsNext s.lines p run) (sym hears.place) next)));
     }
 
 pub returns-in-Quiet-clause-steps : goal.returns-in-Quiet-clause-steps
@@ -46,8 +46,8 @@ returns-in-Quiet-clause-steps g c = λ start run st next.
       run = Receive c.args.line room [] received.Quiet ∷ run;
       stands = stands_same s start (devices (g.N.LineNet.calls c.args.net.now) w) (devices (g.N.LineNet.calls c.receive.new.self) w) c.args.self.now run st c.args.self.now.printer _
           (Receive c.args.line room [] received.Quiet) refl c.in-Quiet.ensures.calls due (prints_no_block c.args.self.now.printer w) st.shown;
-      next = subst (λ (n : ℕ). IsNext n c.after_quiet-self.result (Receive c.args.line room [] received.Quiet ∷ run)) c.lines-in-Quiet.ensures
-          (c.after_quiet-self.ensures.next run room (subst (λ (n : ℕ). IsNext n c.args.self.now.place run) (sym c.lines-in-Quiet.ensures) next));
+      next = subst (λ (n : ℕ). IsNext n c.after_quiet-self.result (Receive c.args.line room [] received.Quiet ∷ run)) c.lines-in-Quiet.ensures.lines
+          (c.after_quiet-self.ensures.next run room (subst (λ (n : ℕ). IsNext n c.args.self.now.place run) (sym c.lines-in-Quiet.ensures.lines) next));
     }
 
 pub returns-in_err-flush-in-Failed-clause-steps : goal.returns-in_err-flush-in-Failed-clause-steps

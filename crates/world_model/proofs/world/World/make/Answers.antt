@@ -1,6 +1,7 @@
-use Rattle.std.proofs.Common.{List, [], refl, ap, rules}
+use Rattle.std.proofs.Common.{ℕ, List, [], refl, ap, subst, rules}
 use Rattle.pitch_messages.specs.Room.{Roomy}
 use Rattle.unit_packets.specs.Packing.{bytes_in}
+use Rattle.client_core.specs.Tracks.{Tracks}
 use Rattle.world_model.proofs.Witness.{none_heard}
 use Rattle.world_model.proofs.world.World.make.Goals as goal
 
@@ -15,7 +16,7 @@ returns-clause-stands c = record {
     sent = ap (λ (l : List (Roomy _)). bytes_in l) c.make-3.ensures;
     replayed = ap (λ (l : List (Roomy _)). bytes_in l) c.make-4.ensures;
     passed = refl;
-    tracks = c.in_ok-client.ensures.tracks;
+    tracks = subst (λ (H : ℕ). Tracks c.in_ok-client.client H []) c.in-Some.ensures.limit c.in_ok-client.ensures.tracks;
     keeps = c.in_ok-client.ensures.keeps [];
     noted = c.make-6.ensures;
     grp = tt;
