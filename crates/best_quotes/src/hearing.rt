@@ -38,7 +38,7 @@ pub(crate) fn hear_block(
     turns.truncate(0);
     let reach = client.reach();
     let _orders = client.book().len();
-    let change = client.hear_block_turned(sequence, raws, turns)?;
+    let change = client.hear_block(sequence, raws, turns)?;
     let _reached = client.reach();
     turn_each(alloc, levels, reach, turns.as_slice(), lines)?;
     Ok(change)

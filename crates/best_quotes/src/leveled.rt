@@ -91,7 +91,7 @@ fn hear_alone(client: &mut UnitClient, block: &BlockView<'_>) -> Result<Change, 
     ensures memory { HearsFreely client.old block.now → IsOk result }
     ensures room { OnOk result (KeepsRoom client.old client.new (length block.now.raws)) }
 {
-    client.hear_block(block.header().sequence, block.raws())
+    client.hear_block(block.header().sequence, block.raws(), &mut ())
 }
 
 // Hands a block to a client, and fills `turns` anew with what the messages that it applies do to
@@ -113,7 +113,7 @@ fn hear_turned(
     ensures room { OnOk result (KeepsRoom client.old client.new (length block.now.raws)) }
 {
     turns.truncate(0);
-    client.hear_block_turned(block.header().sequence, block.raws(), turns)
+    client.hear_block(block.header().sequence, block.raws(), turns)
 }
 
 // Turns the levels of a book by what messages did to its orders, and fills `lines` anew with what

@@ -5,16 +5,14 @@ ghost use Rattle.std.specs.Prelude.{if◌then◌else◌};
 ghost use Rattle.pitch_fields.specs.Limits.{last_sequence};
 ghost use Rattle.pitch_model.specs.Status.{raised};
 
-use crate::applied_log::AppliedLog;
 use crate::client::UnitClient;
+use crate::notes::Notes;
 use crate::spinning::{Finish, SpinState};
 use crate::taking::{Taken, take_image, take_in};
 use heard_items::{Change, ImageEnd, Item};
-use order_book::TurnList;
 use pitch_fields::OutOfMemory;
 use pitch_messages::{RawList, Raws};
 use pitch_model::Status;
-use std::mem::replace;
 
 // How messages were classified.
 #[derive(Clone, Copy, PartialEq, Eq)]
@@ -116,7 +114,6 @@ impl UnitClient {
     ghost use Rattle.pitch_model.specs.Reach.{is_overflow, reach};
     ghost use Rattle.pitch_model.specs.Status.{status_of};
     ghost use Rattle.hold_buffer.specs.layers.Holding.{IsHold};
-    ghost use Rattle.order_book.specs.Turns.{turns_of};
     ghost use Rattle.client_core.specs.Tracks.{Tracks, Keeps};
     ghost use Rattle.client_core.specs.Client.{IsAsBefore, IsStill, Applied};
     ghost use Rattle.client_core.specs.Client.{KeepsRoom, KeepsListRoom, current_book, held_number};
@@ -125,9 +122,9 @@ impl UnitClient {
     ghost use Rattle.client_core.specs.layers.Hearing.{OfHistory};
     ghost use Rattle.client_core.specs.layers.Hearing.{Changes, KeepsBlock, KeepsImaged, OfReached};
     ghost use Rattle.client_core.specs.layers.Items.{IsImage, NeedsNoMemory, message_count};
-    ghost use Rattle.client_core.specs.layers.Bookkeeping.{HasRoom, IsImageReady, noted, turned};
-    ghost use Rattle.client_core.specs.layers.Bookkeeping.{Notes};
-    ghost use Rattle.client_core.specs.layers.Bookkeeping.{CanNote, CanNoteItem, KeepsLogRoom};
+    ghost use Rattle.client_core.specs.layers.Hearing.{NotesNothing, StillCanNote, KeepsNoteRoom};
+    ghost use Rattle.client_core.specs.layers.Items.{CanNoteItem};
+    ghost use Rattle.client_core.specs.layers.Bookkeeping.{HasRoom, IsImageReady};
     ghost use Rattle.client_core.specs.layers.Bookkeeping.{NotesVenues, NotesApplied, Tells};
     ghost use Rattle.client_core.specs.Keeping.{book_size};
     ghost use Rattle.client_core.specs.Weight.{weight, told_by};
@@ -154,39 +151,39 @@ impl UnitClient {
     }
 
     // Hears a message for which there is room, and notes what is applied.
-    fn hear_message(&mut self, log: &mut AppliedLog, sequence: u32, raw: &[u8]) -> Taken
+    fn hear_message<N: Notes>(&mut self, notes: &mut N, sequence: u32, raw: &[u8]) -> Taken
         requires sequence { sequence ≤ last_sequence }
         requires raw { IsRaw raw.now }
         requires room { HasRoom 1 self.old.hold self.old.book.spare }
-        requires log { CanNote (1 + held_number self.old) log.old }
+        requires notes { N.can_note notes.old (1 + held_number self.old) }
         ensures tracks { Hears self.old self.new (λ E. Message sequence raw.now ∷ E) }
         ensures keeps { (V : List Raw)
             → message_at V sequence ≡ Some raw.now → Keeps self.old V → Keeps self.new V }
         ensures fresh { IsToldBy self.old (λ H E. is_fresh H E sequence) result.fresh }
         ensures overflow { IsToldBy self.old
             (λ H E. is_overflow H E (Message sequence raw.now)) result.overflow }
-        ensures notes { NotesApplied
-            (reached self.old) (reached self.new) self.old.book self.new.book log.old log.new }
+        ensures notes { NotesApplied N.noted
+            (reached self.old) (reached self.new) self.old.book self.new.book notes.old notes.new }
         ensures held { reached self.new + held_number self.new
             ≤ (reached self.old + held_number self.old) + 1 }
         ensures venues { (V : List Raw) → message_at V sequence ≡ Some raw.now → Keeps self.old V
-            → NotesVenues self.old self.new V log.old log.new }
-        ensures log { (left : ℕ) → CanNote ((left + 1) + held_number self.old) log.old
-            → CanNote (left + held_number self.new) log.new }
+            → NotesVenues N.noted self.old self.new V notes.old notes.new }
+        ensures room { (left : ℕ) → N.can_note notes.old ((left + 1) + held_number self.old)
+            → N.can_note notes.new (left + held_number self.new) }
         ensures spin { self.new.spin ≡ self.old.spin }
     {
         let before = self.hold.floor();
-        let taken = take_in(&mut self.hold, &mut self.book, log, sequence, raw);
+        let taken = take_in(&mut self.hold, &mut self.book, notes, sequence, raw);
         self.top = raised_by(self.top, sequence);
         self.troubled = troubled_by(before < self.hold.floor(), taken.overflow, self.troubled);
         taken
     }
 
     // Hears messages with rising sequence, for which there is room, and notes what is applied.
-    fn hear_raws(&mut self, log: &mut AppliedLog, first: u32, raws: Raws<'_>) -> Counts
+    fn hear_raws<N: Notes>(&mut self, notes: &mut N, first: u32, raws: Raws<'_>) -> Counts
         requires first { (1 ≤ first) × (first + length raws ≤ last_sequence + 1) }
         requires room { HasRoom (length raws) self.old.hold self.old.book.spare }
-        requires log { CanNote (length raws + held_number self.old) log.old }
+        requires notes { N.can_note notes.old (length raws + held_number self.old) }
         ensures tracks { Hears self.old self.new (heard_messages first raws.entry) }
         ensures keeps { (V : List Raw)
             → AreVenues V first raws.entry → Keeps self.old V → Keeps self.new V }
@@ -194,13 +191,14 @@ impl UnitClient {
             (λ H E. fresh_messages H first raws.entry E) result.fresh }
         ensures overflows { IsToldBy self.old
             (λ H E. overflowed_messages H first raws.entry E) result.overflows }
-        ensures notes { NotesApplied
-            (reached self.old) (reached self.new) self.old.book self.new.book log.old log.new }
+        ensures notes { NotesApplied N.noted
+            (reached self.old) (reached self.new) self.old.book self.new.book notes.old notes.new }
         ensures held { reached self.new + held_number self.new
             ≤ (reached self.old + held_number self.old) + length raws.entry }
         ensures venues { (V : List Raw) → AreVenues V first raws.entry → Keeps self.old V
-            → NotesVenues self.old self.new V log.old log.new }
-        ensures log { KeepsLogRoom self.old self.new (length raws.entry) log.old log.new }
+            → NotesVenues N.noted self.old self.new V notes.old notes.new }
+        ensures room { KeepsNoteRoom N.can_note
+            self.old self.new (length raws.entry) notes.old notes.new }
         ensures spin { self.new.spin ≡ self.old.spin }
     {
         let mut raws = raws;
@@ -208,7 +206,7 @@ impl UnitClient {
         let mut fresh = 0;
         let mut overflows = 0;
         'messages: while let Some(raw) = raws.next_raw() {
-            let taken = self.hear_message(log, sequence, raw);
+            let taken = self.hear_message(notes, sequence, raw);
             fresh = counted(fresh, taken.fresh);
             overflows = counted(overflows, taken.overflow);
             sequence += 1;
@@ -218,9 +216,9 @@ impl UnitClient {
 
     // Hears messages with rising sequence, and notes what is applied. After OutOfMemory no more is
     // noted.
-    fn hear_messages(
+    fn hear_messages<N: Notes>(
         &mut self,
-        log: &mut AppliedLog,
+        notes: &mut N,
         first: u32,
         raws: Raws<'_>,
     ) -> Result<Counts, OutOfMemory>
@@ -234,30 +232,29 @@ impl UnitClient {
         ensures overflows { IfOk result
             (λ counts. IsToldBy self.old
             (λ H E. overflowed_messages H first raws.entry E) counts.overflows) }
-        ensures notes { OnOk result (NotesApplied (reached self.old)
-            (reached self.new) self.old.book self.new.book log.old log.new) }
+        ensures notes { OnOk result (NotesApplied N.noted (reached self.old)
+            (reached self.new) self.old.book self.new.book notes.old notes.new) }
         ensures held { OnOk result (reached self.new + held_number self.new
             ≤ (reached self.old + held_number self.old) + length raws.entry) }
         ensures venues { OnOk result
             ((V : List Raw) → AreVenues V first raws.entry → Keeps self.old V
-            → NotesVenues self.old self.new V log.old log.new) }
-        ensures log { OnOk result
-            (KeepsLogRoom self.old self.new (length raws.entry) log.old log.new) }
+            → NotesVenues N.noted self.old self.new V notes.old notes.new) }
+        ensures room { OnOk result (KeepsNoteRoom N.can_note
+            self.old self.new (length raws.entry) notes.old notes.new) }
         ensures err { OnErr result (IsAsBefore self.old self.new) }
-        ensures err_noted { OnErr result (noted log.new ≡ noted log.old) }
-        ensures err_turned { OnErr result (turned log.new ≡ turned log.old) }
-        ensures err_log { OnErr result ((left : ℕ) → CanNote left log.old → CanNote left log.new) }
-        ensures memory { CanNote (length raws.entry + held_number self.old) log.old
+        ensures err_notes { OnErr result (NotesNothing N.noted notes.old notes.new) }
+        ensures err_room { OnErr result (StillCanNote N.can_note notes.old notes.new) }
+        ensures memory { N.can_note notes.old (length raws.entry + held_number self.old)
             → length raws.entry + held_number self.old ≤ spare_of self.old → IsOk result }
         ensures spin { OnOk result (self.new.spin ≡ self.old.spin) }
     {
         if is_old(first, raws.len(), self.hold.floor()) {
             return Ok(self.pass_over(first, &raws));
         }
-        log.reserve(raws.len() + self.hold.len() as usize)?;
+        notes.reserve(raws.len() + self.hold.len() as usize)?;
         self.make_room(raws.len() as u32)?;
         self.look_up(raws.copy());
-        Ok(self.hear_raws(log, first, raws))
+        Ok(self.hear_raws(notes, first, raws))
     }
 
     // Passes over messages with rising sequence that are all old. They change nothing, not even the
@@ -284,10 +281,10 @@ impl UnitClient {
     }
 
     // Takes in a block, and notes what is applied. After OutOfMemory no more is noted.
-    #[tactic(auto, using(crate::proofs::Applying::still_notes, crate::proofs::Applying::still_held, crate::proofs::Applying::still_venues, crate::proofs::Applying::still_log))]
-    fn take_block(
+    #[tactic(auto, using(crate::proofs::Applying::still_notes, crate::proofs::Applying::still_held, crate::proofs::Applying::still_venues, crate::proofs::Applying::still_room))]
+    fn take_block<N: Notes>(
         &mut self,
-        log: &mut AppliedLog,
+        notes: &mut N,
         sequence: u32,
         raws: Raws<'_>,
     ) -> Result<Counts, OutOfMemory>
@@ -300,22 +297,21 @@ impl UnitClient {
         ensures overflows { IfOk result
             (λ counts. OfBlock sequence raws.entry
             (λ block. IsToldBy self.old (λ H E. block_overflows H E block) counts.overflows)) }
-        ensures notes { OnOk result (NotesApplied (reached self.old)
-            (reached self.new) self.old.book self.new.book log.old log.new) }
+        ensures notes { OnOk result (NotesApplied N.noted (reached self.old)
+            (reached self.new) self.old.book self.new.book notes.old notes.new) }
         ensures held { OnOk result (reached self.new + held_number self.new
             ≤ (reached self.old + held_number self.old) + length raws.entry) }
         ensures venues { OnOk result
             (OfBlock sequence raws.entry
             (λ block. (Image : List Raw → ℕ → List Raw) (V : List Raw) (E : List Entry)
             → Honest Image V (heard_block block E) → Keeps self.old V
-            → NotesVenues self.old self.new V log.old log.new)) }
-        ensures log { OnOk result
-            (KeepsLogRoom self.old self.new (length raws.entry) log.old log.new) }
+            → NotesVenues N.noted self.old self.new V notes.old notes.new)) }
+        ensures room { OnOk result (KeepsNoteRoom N.can_note
+            self.old self.new (length raws.entry) notes.old notes.new) }
         ensures err { OnErr result (IsAsBefore self.old self.new) }
-        ensures err_noted { OnErr result (noted log.new ≡ noted log.old) }
-        ensures err_turned { OnErr result (turned log.new ≡ turned log.old) }
-        ensures err_log { OnErr result ((left : ℕ) → CanNote left log.old → CanNote left log.new) }
-        ensures memory { CanNote (length raws.entry + held_number self.old) log.old
+        ensures err_notes { OnErr result (NotesNothing N.noted notes.old notes.new) }
+        ensures err_room { OnErr result (StillCanNote N.can_note notes.old notes.new) }
+        ensures memory { N.can_note notes.old (length raws.entry + held_number self.old)
             → length raws.entry + held_number self.old ≤ spare_of self.old → IsOk result }
         ensures heartbeat { raws.entry ≡ [] → IsOk result }
         ensures unsequenced { sequence ≡ 0 → IsOk result }
@@ -328,55 +324,24 @@ impl UnitClient {
             self.hear_next(sequence);
             return Ok(NO_MESSAGES);
         }
-        self.hear_messages(log, sequence, raws)
+        self.hear_messages(notes, sequence, raws)
     }
 
     /// Hears a block with this sequence and these messages: nothing of an unsequenced one, a
     /// heartbeat where it has no messages, else its messages with rising sequence ("Sequenced Unit
-    /// Header", "Heartbeat Messages").
+    /// Header", "Heartbeat Messages"). Each message that it applies to the book, of the block or
+    /// held, is noted, in their order; `&mut ()` notes nothing.
     ///
-    /// After OutOfMemory the client is as before the block. That never comes where the spare is at
-    /// least the number of the block's messages and of those held, nor for a block with no messages
-    /// or no sequence. The spare falls by at most the number of messages that are applied.
-    pub fn hear_block(&mut self, sequence: u32, raws: Raws<'_>) -> Result<Change, OutOfMemory>
-        requires { StaysWithin sequence (length raws) }
-        // Whatever history the client stood for, it now stands for that history and this block.
-        ensures tracks { OnOk result (OfBlock sequence raws.entry (HearsBlock self.old self.new)) }
-        // In an honest history, where all that is heard comes from one venue, the book stays the
-        // one that the venue's messages up to the reach leave, and what is held stays the venue's.
-        ensures keeps { OnOk result (OfBlock sequence raws.entry (KeepsBlock self.old self.new)) }
-        // Whatever was heard before, the answer is what the block changes: the status before and
-        // after it, and how many messages were fresh and overflowed the hold.
-        ensures change { IfOk result
-            (λ change. OfBlock sequence raws.entry (Changes self.old change)) }
-        // Honest or not, the book is what the applied messages make of the one before, and only
-        // their room is used up.
-        ensures applies { OnOk result ((applied : List Raw) × Applied self.old self.new applied) }
-        // Where there was room for this block and for more messages, there is still room for those.
-        ensures room { OnOk result (KeepsRoom self.old self.new (length raws.entry)) }
-        ensures err { OnErr result (IsAsBefore self.old self.new) }
-        ensures memory { length raws.entry + held_number self.old ≤ spare_of self.old
-            → IsOk result }
-        ensures heartbeat { raws.entry ≡ [] → IsOk result }
-        ensures unsequenced { sequence ≡ 0 → IsOk result }
-    {
-        let before = self.status();
-        let counts = self.take_block(&mut AppliedLog::Off, sequence, raws)?;
-        Ok(self.changed_since(before, counts.heard()))
-    }
-
-    /// Hears a block as `hear_block` does, and appends to `applied` the messages that it applied to
-    /// the book, in their order: those of the block and those held that they made next.
-    ///
-    /// After OutOfMemory both are as before the block. That never comes where it wouldn't in
-    /// `hear_block` and `applied` too has room for the block's messages and those held. What the
-    /// caller reserved in `applied` stays, but for the messages that are appended: the messages of
-    /// several blocks, and those held, can be reserved for at once.
-    pub fn hear_block_into(
+    /// After OutOfMemory the client is as before the block, and nothing was noted. That never comes
+    /// where the spare is at least the number of the block's messages and of those held, and so
+    /// many can be noted, nor for a block with no messages or no sequence. The spare falls by at
+    /// most the number of messages that are applied, and so does the room of the notes: the
+    /// messages of several blocks, and those held, can be reserved for at once.
+    pub fn hear_block<N: Notes>(
         &mut self,
         sequence: u32,
         raws: Raws<'_>,
-        applied: &mut RawList,
+        notes: &mut N,
     ) -> Result<Change, OutOfMemory>
         requires { StaysWithin sequence (length raws) }
         // Whatever history the client stood for, it now stands for that history and this block.
@@ -388,89 +353,37 @@ impl UnitClient {
         // after it, and how many messages were fresh and overflowed the hold.
         ensures change { IfOk result
             (λ change. OfBlock sequence raws.entry (Changes self.old change)) }
-        // Honest or not, what is appended are the applied messages, by which the reach rose.
-        ensures applies { OnOk result ((more : List Raw)
-            × (applied.new.items ≡ applied.old.items ++ more) × Applied self.old self.new more) }
+        // Honest or not, the book is what the applied messages make of the one before, by which the
+        // reach rose, only their room is used up, and just they were noted.
+        ensures applies { OnOk result ((applied : List Raw)
+            × N.noted notes.old notes.new (current_book self.old) applied
+            × Applied self.old self.new applied) }
         // In an honest history these are the venue's messages after the old reach, up to the new
         // one.
         ensures venues { OnOk result
             (OfBlock sequence raws.entry
             (λ block. OfReached self.old (heard_block block)
-            (λ raws. applied.new.items ≡ applied.old.items ++ raws))) }
+            (N.noted notes.old notes.new (current_book self.old)))) }
         // Where there was room for this block and for more messages, there is still room for those:
-        // in the book, and in the list.
+        // in the book, and in the notes.
         ensures room { OnOk result (KeepsRoom self.old self.new (length raws.entry)) }
-        ensures room_applied { OnOk result (KeepsListRoom self.old self.new
-            (length raws.entry) applied.old.spare applied.new.spare) }
+        ensures room_notes { OnOk result (KeepsNoteRoom N.can_note
+            self.old self.new (length raws.entry) notes.old notes.new) }
         ensures err { OnErr result (IsAsBefore self.old self.new) }
-        ensures err_applied { OnErr result (applied.new.items ≡ applied.old.items) }
-        ensures err_room { OnErr result (applied.old.spare ≤ applied.new.spare) }
+        ensures err_notes { OnErr result (NotesNothing N.noted notes.old notes.new) }
+        ensures err_room { OnErr result (StillCanNote N.can_note notes.old notes.new) }
         ensures memory { length raws.entry + held_number self.old ≤ spare_of self.old
-            → length raws.entry + held_number self.old ≤ applied.old.spare → IsOk result }
+            → N.can_note notes.old (length raws.entry + held_number self.old) → IsOk result }
         ensures heartbeat { raws.entry ≡ [] → IsOk result }
         ensures unsequenced { sequence ≡ 0 → IsOk result }
-        // Honest or not, what is appended and what is left to pass on was left before, or is the
+        // Honest or not, what is applied and what is left to pass on was left before, or is the
         // block's.
-        ensures weighs { OnOk result (length applied.new.items + weight self.new
-            ≤ (length applied.old.items + weight self.old) + length raws.entry) }
+        ensures weighs { OnOk result (reached self.new + weight self.new
+            ≤ (reached self.old + weight self.old) + length raws.entry) }
     {
         let before = self.status();
-        let mut log = AppliedLog::On(replace(applied, RawList::make(self.alloc)));
-        let counts = self.take_block(&mut log, sequence, raws);
-        *applied = log.into_list(self.alloc);
-        Ok(self.changed_since(before, counts?.heard()))
-    }
-
-    /// Hears a block as `hear_block` does, and appends to `turns` what each message that it applied
-    /// did to the open orders, in their order.
-    ///
-    /// After OutOfMemory both are as before the block. That never comes where it wouldn't in
-    /// `hear_block` and `turns` too has room for the block's messages and those held. What the
-    /// caller reserved in `turns` stays, but for the turns that are appended.
-    pub fn hear_block_turned(
-        &mut self,
-        sequence: u32,
-        raws: Raws<'_>,
-        turns: &mut TurnList,
-    ) -> Result<Change, OutOfMemory>
-        requires { StaysWithin sequence (length raws) }
-        // Whatever history the client stood for, it now stands for that history and this block.
-        ensures tracks { OnOk result (OfBlock sequence raws.entry (HearsBlock self.old self.new)) }
-        // In an honest history, where all that is heard comes from one venue, the book stays the
-        // one that the venue's messages up to the reach leave, and what is held stays the venue's.
-        ensures keeps { OnOk result (OfBlock sequence raws.entry (KeepsBlock self.old self.new)) }
-        // Whatever was heard before, the answer is what the block changes: the status before and
-        // after it, and how many messages were fresh and overflowed the hold.
-        ensures change { IfOk result
-            (λ change. OfBlock sequence raws.entry (Changes self.old change)) }
-        // Honest or not, what is appended are the turns of the applied messages, by which the reach
-        // rose.
-        ensures applies { OnOk result ((more : List Raw) × (turns.new.items ≡ turns.old.items
-            ++ turns_of (current_book self.old) more) × Applied self.old self.new more) }
-        // In an honest history these are the turns of the venue's messages after the old reach, up
-        // to the new one.
-        ensures venues { OnOk result
-            (OfBlock sequence raws.entry
-            (λ block. OfReached self.old (heard_block block)
-            (λ raws. turns.new.items ≡ turns.old.items ++ turns_of (current_book self.old) raws))) }
-        // Where there was room for this block and for more messages, there is still room for those:
-        // in the book, and in the list.
-        ensures room { OnOk result (KeepsRoom self.old self.new (length raws.entry)) }
-        ensures room_turns { OnOk result
-            (KeepsListRoom self.old self.new (length raws.entry) turns.old.spare turns.new.spare) }
-        ensures err { OnErr result (IsAsBefore self.old self.new) }
-        ensures err_turns { OnErr result (turns.new.items ≡ turns.old.items) }
-        ensures err_room { OnErr result (turns.old.spare ≤ turns.new.spare) }
-        ensures memory { length raws.entry + held_number self.old ≤ spare_of self.old
-            → length raws.entry + held_number self.old ≤ turns.old.spare → IsOk result }
-        ensures heartbeat { raws.entry ≡ [] → IsOk result }
-        ensures unsequenced { sequence ≡ 0 → IsOk result }
-    {
-        let before = self.status();
-        let mut log = AppliedLog::Turned(replace(turns, TurnList::make(self.alloc)));
-        let counts = self.take_block(&mut log, sequence, raws);
-        *turns = log.into_turns(self.alloc);
-        Ok(self.changed_since(before, counts?.heard()))
+        let counts = self.take_block(notes, sequence, raws)?;
+        Ok(self.changed_since(before, counts.heard()))
     }
 
     fn hear_grp_up(&mut self)
@@ -595,14 +508,14 @@ impl UnitClient {
     }
 
     // Hears an item, and notes what is applied. After OutOfMemory no more is noted.
-    #[tactic(auto, using(crate::proofs::Applying::still_keeps, crate::proofs::Applying::still_notes, crate::proofs::Applying::still_held, crate::proofs::Applying::still_venues, crate::proofs::Applying::still_log))]
-    fn hear_item(&mut self, log: &mut AppliedLog, item: &Item) -> Result<Heard, OutOfMemory>
+    #[tactic(auto, using(crate::proofs::Applying::still_keeps, crate::proofs::Applying::still_notes, crate::proofs::Applying::still_held, crate::proofs::Applying::still_venues, crate::proofs::Applying::still_room))]
+    fn hear_item<N: Notes>(&mut self, notes: &mut N, item: &Item) -> Result<Heard, OutOfMemory>
         requires { IsItem item.now }
         ensures tracks { OnOk result (Hears self.old self.new (heard item.now)) }
         ensures keeps { OnOk result (KeepsImaged self.old self.new (heard item.now)) }
         ensures heard { IfOk result (λ told. OfHistory self.old (λ H E. Tells H E item.now told)) }
-        ensures notes { IfOk result (λ told. told.image ≢ ImageEnd.Taken → NotesApplied
-            (reached self.old) (reached self.new) self.old.book self.new.book log.old log.new) }
+        ensures notes { IfOk result (λ told. told.image ≢ ImageEnd.Taken → NotesApplied N.noted
+            (reached self.old) (reached self.new) self.old.book self.new.book notes.old notes.new) }
         ensures held { IfOk result
             (λ told. told.image ≢ ImageEnd.Taken → reached self.new + held_number self.new
             ≤ (reached self.old + held_number self.old) + message_count item.now) }
@@ -610,16 +523,15 @@ impl UnitClient {
             (λ told. told.image ≢ ImageEnd.Taken
             → (Image : List Raw → ℕ → List Raw) (V : List Raw) (E : List Entry)
             → Honest Image V (heard item.now E) → Keeps self.old V
-            → NotesVenues self.old self.new V log.old log.new) }
-        ensures log { IfOk result (λ told. told.image ≢ ImageEnd.Taken
-            → KeepsLogRoom self.old self.new (message_count item.now) log.old log.new) }
-        ensures taken { IfOk result (λ told. told.image ≡ ImageEnd.Taken → log.new ≡ log.old) }
+            → NotesVenues N.noted self.old self.new V notes.old notes.new) }
+        ensures room { IfOk result (λ told. told.image ≢ ImageEnd.Taken → KeepsNoteRoom N.can_note
+            self.old self.new (message_count item.now) notes.old notes.new) }
+        ensures taken { IfOk result (λ told. told.image ≡ ImageEnd.Taken → notes.new ≡ notes.old) }
         ensures err { OnErr result (IsAsBefore self.old self.new) }
-        ensures err_noted { OnErr result (noted log.new ≡ noted log.old) }
-        ensures err_turned { OnErr result (turned log.new ≡ turned log.old) }
-        ensures err_log { OnErr result ((left : ℕ) → CanNote left log.old → CanNote left log.new) }
+        ensures err_notes { OnErr result (NotesNothing N.noted notes.old notes.new) }
+        ensures err_room { OnErr result (StillCanNote N.can_note notes.old notes.new) }
         ensures memory { NeedsNoMemory item.now (held_number self.old) (spare_of self.old)
-            → CanNoteItem item.now (held_number self.old) log.old → IsOk result }
+            → CanNoteItem item.now (held_number self.old) (N.can_note notes.old) → IsOk result }
         ensures weighs { IfOk result (λ told. told.image ≢ ImageEnd.Taken → reached self.new
             + weight self.new ≤ (reached self.old + weight self.old) + told_by item.now) }
         ensures weighs_taken { IfOk result (λ told. told.image ≡ ImageEnd.Taken → (2 + book_size
@@ -627,7 +539,7 @@ impl UnitClient {
     {
         match item {
             Item::Messages { first, raws } => {
-                let counts = self.hear_messages(log, *first, raws.raws())?;
+                let counts = self.hear_messages(notes, *first, raws.raws())?;
                 return Ok(counts.heard());
             }
             Item::Next { next } => self.hear_next(*next),
@@ -655,7 +567,64 @@ impl UnitClient {
         Ok(NOTHING_NEW)
     }
 
-    /// Hears an item. After OutOfMemory the client is as before the item.
+    /// Hears an item, and notes each message that it applies to the book, in their order. Where an
+    /// image replaced the book nothing is noted.
+    ///
+    /// After OutOfMemory the client is as before the item, and nothing was noted. That never comes
+    /// for messages where the spare is at least their number and that of those held, and so many
+    /// can be noted, nor for any item but messages, messages of an image and the end of a spin.
+    /// Unless an image replaces the book, the spare falls by at most the number of messages that
+    /// are applied, and so does the room of the notes: the messages of several items, and those
+    /// held, can be reserved for at once.
+    pub fn hear_with<N: Notes>(&mut self, item: &Item, notes: &mut N) -> Result<Change, OutOfMemory>
+        requires { IsItem item.now }
+        // Whatever history the client stood for, it now stands for that history and this item.
+        ensures tracks { OnOk result (Hears self.old self.new (heard item.now)) }
+        // In an honest history, where all that is heard comes from one venue, the book stays the
+        // one that the venue's messages up to the reach leave, and what is held stays the venue's.
+        // An image may be any messages that leave the book for which it stands.
+        ensures keeps { OnOk result (KeepsImaged self.old self.new (heard item.now)) }
+        // Whatever was heard before, the answer is what the item changes: the status before and
+        // after it, how many messages were fresh and overflowed the hold, and an image's end.
+        ensures change { IfOk result (IsToldBy self.old (λ H E. change_of H E item.now)) }
+        // Honest or not, the book is what the applied messages make of the one before, by which the
+        // reach rose, only their room is used up, and just they were noted.
+        ensures applies { IfOk result (λ change. change.image ≢ ImageEnd.Taken
+            → (applied : List Raw) × N.noted notes.old notes.new (current_book self.old) applied
+            × Applied self.old self.new applied) }
+        // In an honest history these are the venue's messages after the old reach, up to the new
+        // one.
+        ensures venues { IfOk result
+            (λ change. change.image ≢ ImageEnd.Taken → OfReached self.old (heard item.now)
+            (N.noted notes.old notes.new (current_book self.old))) }
+        ensures taken { IfOk result
+            (λ change. change.image ≡ ImageEnd.Taken → notes.new ≡ notes.old) }
+        // Where there was room for this item and for more messages, there is still room for those:
+        // in the book, and in the notes.
+        ensures room { IfOk result (λ change. change.image ≢ ImageEnd.Taken
+            → KeepsRoom self.old self.new (message_count item.now)) }
+        ensures room_notes { IfOk result
+            (λ change. change.image ≢ ImageEnd.Taken → KeepsNoteRoom N.can_note
+            self.old self.new (message_count item.now) notes.old notes.new) }
+        ensures err { OnErr result (IsAsBefore self.old self.new) }
+        ensures err_notes { OnErr result (NotesNothing N.noted notes.old notes.new) }
+        ensures err_room { OnErr result (StillCanNote N.can_note notes.old notes.new) }
+        ensures memory { NeedsNoMemory item.now (held_number self.old) (spare_of self.old)
+            → CanNoteItem item.now (held_number self.old) (N.can_note notes.old) → IsOk result }
+        // Honest or not, what is applied and what is left to pass on was left before, or is the
+        // item's; and so is the book of an image that was taken, with a Unit Clear and a Time.
+        ensures weighs { IfOk result (λ change. change.image ≢ ImageEnd.Taken → reached self.new
+            + weight self.new ≤ (reached self.old + weight self.old) + told_by item.now) }
+        ensures weighs_taken { IfOk result (λ change. change.image ≡ ImageEnd.Taken → (2 + book_size
+            (current_book self.new)) + weight self.new ≤ weight self.old + told_by item.now) }
+    {
+        let before = self.status();
+        let heard = self.hear_item(notes, item)?;
+        Ok(self.changed_since(before, heard))
+    }
+
+    /// Hears an item as `hear_with` does, and notes nothing. After OutOfMemory the client is as
+    /// before the item.
     ///
     /// That never comes for messages where the spare is at least their number and that of those
     /// held, nor for any item but messages, messages of an image and the end of a spin. Unless an
@@ -682,13 +651,11 @@ impl UnitClient {
         ensures memory { NeedsNoMemory item.now (held_number self.old) (spare_of self.old)
             → IsOk result }
     {
-        let before = self.status();
-        let heard = self.hear_item(&mut AppliedLog::Off, item)?;
-        Ok(self.changed_since(before, heard))
+        self.hear_with(item, &mut ())
     }
 
-    /// Hears an item as `hear` does, and appends to `applied` the messages that it applied to the
-    /// book, in their order. Where an image replaced the book, nothing is appended.
+    /// Hears an item as `hear_with` does, and appends to `applied` the messages that it applied to
+    /// the book, in their order. Where an image replaced the book, nothing is appended.
     ///
     /// After OutOfMemory both are as before the item. That never comes where it wouldn't in `hear`
     /// and `applied` too has room for the item's messages and those held. What the caller reserved
@@ -735,10 +702,6 @@ impl UnitClient {
         ensures weighs_taken { IfOk result (λ change. change.image ≡ ImageEnd.Taken → (2 + book_size
             (current_book self.new)) + weight self.new ≤ weight self.old + told_by item.now) }
     {
-        let before = self.status();
-        let mut log = AppliedLog::On(replace(applied, RawList::make(self.alloc)));
-        let heard = self.hear_item(&mut log, item);
-        *applied = log.into_list(self.alloc);
-        Ok(self.changed_since(before, heard?))
+        self.hear_with(item, applied)
     }
 }

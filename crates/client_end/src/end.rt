@@ -74,7 +74,7 @@ impl ClientEnd {
     {
         let change = self
             .client
-            .hear_block(block.header().sequence, block.raws())?;
+            .hear_block(block.header().sequence, block.raws(), &mut ())?;
         Ok(change)
     }
 

@@ -43,7 +43,7 @@ fn hear_block(client: &mut UnitClient, block: &BlockView<'_>) -> Result<(), OutO
         ((V : List Raw) (unit : ℕ) → IsVenueBlock V unit block.now
         → FollowsWith client.old client.new V (heard_block block.now)) }
 {
-    client.hear_block(block.header().sequence, block.raws())?;
+    client.hear_block(block.header().sequence, block.raws(), &mut ())?;
     Ok(())
 }
 

@@ -31,7 +31,7 @@ fn hear_if_ours(client: &mut UnitClient, block: &BlockView<'_>) -> Result<(), Ou
     if header.unit != 1 {
         return Ok(());
     }
-    client.hear_block(header.sequence, block.raws())?;
+    client.hear_block(header.sequence, block.raws(), &mut ())?;
     Ok(())
 }
 

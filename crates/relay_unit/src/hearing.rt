@@ -193,5 +193,5 @@ pub(crate) fn hear_merged(
             image,
         });
     }
-    client.hear_block_into(sequence, block.raws(), sent)
+    client.hear_block(sequence, block.raws(), sent)
 }

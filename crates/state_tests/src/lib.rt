@@ -13,6 +13,8 @@ mod clients;
 #[cfg(test)]
 mod holds;
 #[cfg(test)]
+mod own_notes;
+#[cfg(test)]
 mod quotes;
 #[cfg(test)]
 mod relays;

@@ -53,7 +53,7 @@ fn hear(client: &mut UnitClient, block: &BlockView<'_>) -> Result<Change, OutOfM
     ensures memory { HearsFreely client.old block.now → IsOk result }
     ensures room { OnOk result (KeepsRoom client.old client.new (length block.now.raws)) }
 {
-    client.hear_block(block.header().sequence, block.raws())
+    client.hear_block(block.header().sequence, block.raws(), &mut ())
 }
 
 // Hands a block to the client at its unit's place, which is made where there is none. A new client

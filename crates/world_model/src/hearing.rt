@@ -37,7 +37,7 @@ fn hear_block(
     ensures { IfOk result (λ overflow. HearsBlocks
         unit line client.old client.new arbiter.old arbiter.new (block.now ∷ []) overflow) }
 {
-    let change = client.hear_block(block.header().sequence, block.raws())?;
+    let change = client.hear_block(block.header().sequence, block.raws(), &mut ())?;
     arbiter.note(line, unit, messages_of(block), change.fresh);
     Ok(change.overflows > 0)
 }

@@ -1,7 +1,8 @@
 -- What hearing does to a client, in the words of its contracts. Whatever it stood for before is
 -- meant, and each venue whose messages its book and hold were.
-use Rattle.std.specs.Prelude.{◌≡◌, ℕ, List, drop, take}
+use Rattle.std.specs.Prelude.{◌≡◌, ℕ, ◌+◌, List, [], drop, take}
 use Rattle.unit_packets.specs.Blocks.{Block}
+use Rattle.pitch_model.specs.Book.{Book}
 use Rattle.pitch_model.specs.History.{Entry, Raw}
 use Rattle.pitch_model.specs.Honest.{Honest}
 use Rattle.pitch_model.specs.Reach.{reach}
@@ -10,6 +11,7 @@ use Rattle.heard_items.specs.HeardBlocks.{heard_block}
 use Rattle.heard_items.specs.declared.change.Change.{Change}
 use Rattle.client_core.specs.layers.Blocks.{Carries}
 use Rattle.client_core.specs.layers.Items.{IsImage}
+use Rattle.client_core.specs.Client.{held_number}
 use Rattle.client_core.specs.Tracks.{Tracks, Keeps}
 use Rattle.client_core.specs.declared.client.UnitClient.{UnitClient}
 
@@ -65,3 +67,19 @@ KeepsBlock c c' block = KeepsHonest c c' (heard_block block)
 -- the answer is what the block changes
 abbrev pub Changes : UnitClient → Change → Block → Type 0
 Changes c change block = IsToldBy c (λ H E. block_change H E block) change
+
+-- ---- What is noted of the messages that are applied
+-- nothing was noted
+abbrev pub NotesNothing : {N : Type 0} → (N → N → Book → List Raw → Type 0) → N → N → Type 0
+NotesNothing noted first last = (book : Book) → noted first last book []
+
+-- as many can be noted as before
+abbrev pub StillCanNote : {N : Type 0} → (N → ℕ → Type 0) → N → N → Type 0
+StillCanNote can_note first last = (count : ℕ) → can_note first count → can_note last count
+
+-- beyond what is held, room to note so many messages and more now serves those more
+abbrev pub KeepsNoteRoom : {N : Type 0} → (N → ℕ → Type 0)
+    → UnitClient → UnitClient → ℕ → N → N → Type 0
+KeepsNoteRoom can_note c c' count first last =
+    (more : ℕ) → can_note first ((count + held_number c) + more)
+    → can_note last (held_number c' + more)

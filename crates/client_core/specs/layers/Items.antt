@@ -28,3 +28,8 @@ NeedsNoMemory item.GrpUp held spare = Unit {0}
 NeedsNoMemory item.GrpDown held spare = Unit {0}
 NeedsNoMemory item.SpinUp held spare = Unit {0}
 NeedsNoMemory item.SpinDown held spare = Unit {0}
+
+-- where so many messages are held, all that an item applies can be noted
+abbrev pub CanNoteItem : Item → ℕ → (ℕ → Type 0) → Type 0
+CanNoteItem (item.Messages first raws) held can_note = can_note (length raws.items + held)
+CanNoteItem other held can_note = Unit {0}

@@ -25,7 +25,7 @@ returns-clause-memory c free = elim free [
   | inl none ↦ c.hear_block.ensures.heartbeat (c.raws.ensures.raws ∙ none)
   | inr other ↦ elim other [
     | inl unsequenced ↦ c.hear_block.ensures.unsequenced (ap (λ (h : Header). h.sequence) c.header.ensures ∙ unsequenced)
-    | inr enough ↦ c.hear_block.ensures.memory (subst (λ (raws : List Raw). length raws + held_number c.args.client.now ≤ spare_of c.args.client.now) (sym c.raws.ensures.raws) enough)
+    | inr enough ↦ c.hear_block.ensures.memory (subst (λ (raws : List Raw). length raws + held_number c.args.client.now ≤ spare_of c.args.client.now) (sym c.raws.ensures.raws) enough) tt
   ]
 ]
 

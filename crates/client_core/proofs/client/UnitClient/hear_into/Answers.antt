@@ -1,20 +1,33 @@
-use Rattle.std.proofs.Common.{List, ℕ, ◌++◌, ap, ◌∙◌, take, drop, arith}
-use Rattle.pitch_messages.specs.Room.{Roomy}
-use Rattle.client_core.specs.Client.{reached}
-use Rattle.client_core.proofs.Listed.{listed, listed_room}
+use Rattle.std.proofs.Common.{◌≡◌, ℕ, List, ◌+◌, ◌∙◌, ap, length, length-append, append-nil, le_refl, arith}
+use Rattle.pitch_model.specs.Book.{empty_book}
+use Rattle.client_core.specs.Client.{held_number}
+use Rattle.client_core.proofs.ItemRoom.{list_can}
+use Rattle.client_core.proofs.Outcomes.{if_both, on_err}
 use Rattle.client_core.proofs.client.UnitClient.hear_into.Goals as goal
 
+pub returns-clause-applies : goal.returns-clause-applies
+returns-clause-applies c = c.hear_with.ensures.applies
+
 pub returns-clause-venues : goal.returns-clause-venues
-returns-clause-venues c = λ other Image V H E T honest K.
-    let from = T.floor_is in
-    let to = (c.in_ok-heard.ensures.tracks H E T).floor_is in
-    let is = c.in_ok-heard.ensures.venues (λ e. other (c.changed_since.ensures.image ∙ e)) Image V E honest K in
-    let before = ap (λ (list : _). list.items) c.replace.ensures.value in
-    listed _ c.replace.result.items _ c.into_list.result.items is.noted_is c.into_list.ensures.items
-    ∙ ap (λ items. items ++ drop (reached c.args.self.now) (take (reached c.hear_item-heard.new.self) V)) before
-    ∙ (λ i. c.args.applied.now.items ++ drop (from i) (take (to i) V))
+returns-clause-venues c = c.hear_with.ensures.venues
 
 pub returns-clause-room_applied : goal.returns-clause-room_applied
-returns-clause-room_applied c = λ other more r.
-    let before = ap (λ (list : Roomy (List ℕ)). list.spare) c.replace.ensures.value in
-    listed_room _ c.into_list.result _ _ (c.in_ok-heard.ensures.notes (λ e. other (c.changed_since.ensures.image ∙ e))).noted_is c.into_list.ensures.list (c.in_ok-heard.ensures.log (λ e. other (c.changed_since.ensures.image ∙ e)) more (omega arith))
+returns-clause-room_applied c = c.hear_with.ensures.room_notes
+
+pub returns-clause-err_applied : goal.returns-clause-err_applied
+returns-clause-err_applied c = on_err c.hear_with.result (λ nothing. nothing empty_book ∙ append-nil c.args.applied.now.items) c.hear_with.ensures.err_notes
+
+pub returns-clause-err_room : goal.returns-clause-err_room
+returns-clause-err_room c = on_err c.hear_with.result (λ still. still c.args.applied.now.spare (le_refl c.args.applied.now.spare)) c.hear_with.ensures.err_room
+
+pub returns-clause-memory : goal.returns-clause-memory
+returns-clause-memory c = λ room applied. c.hear_with.ensures.memory room (list_can c.args.item.now (held_number c.args.self.now) c.args.applied.now.spare applied)
+
+-- as many were appended as the reach rose by
+pub returns-clause-weighs : goal.returns-clause-weighs
+returns-clause-weighs c = if_both _ _ _ c.hear_with.result (λ change applies weighs other.
+    let a = applies other in
+    let more : length c.hear_with.new.notes.items ≡ length c.args.applied.now.items + length a.0 = ap (λ (raws : List (List ℕ)). length raws) a.1 ∙ length-append c.args.applied.now.items a.0 in
+    let reach = a.2.reach_is in
+    let weight = weighs other in
+    omega arith) c.hear_with.ensures.applies c.hear_with.ensures.weighs
