@@ -5,7 +5,7 @@ use Rattle.pitch_io.specs.declared.line.Line.TheVariants.{A, Gap}
 use Rattle.pitch_text.specs.declared.command.Command.TheVariants.{Time, Add, Exec, ExecAt, Reduce, Modify, Delete, Trade, Break, Clear, EndSession, Status}
 use Rattle.pitch_text.specs.declared.verb.Session.TheVariants.{Grp, Spin}
 use Rattle.pitch_text.specs.declared.verb.Verb.TheVariants as verbs
-use Rattle.pitch_text.specs.CommandGrammar.{command, time_rule, add_rule, exec_rule, execat_rule, reduce_rule, modify_rule, delete_rule, trade_rule, break_rule, clear_rule, end_rule, status_rule}
+use Rattle.pitch_text.specs.CommandGrammar.{command, order_fields, time_rule, add_rule, exec_rule, execat_rule, reduce_rule, modify_rule, delete_rule, trade_rule, break_rule, clear_rule, end_rule, status_rule}
 use Rattle.pitch_text.specs.ScheduleGrammar.{entry, verb, setup_rule, deliver_rule, up_rule, session_rule}
 use Rattle.text_lines.specs.declared.fault.TextCause.TheVariants.{BadWord, MissingField}
 use Rattle.text_lines.specs.Text.{said_of}
@@ -13,12 +13,12 @@ use Rattle.text_lines.specs.Text.{said_of}
 -- ---- Commands
 an_add : said_of command (codes "add 7 S 100 IBM 10.05 hidden mpid=AB at=5")
     ≡ Ok (1, Add (record { id = 7; side = Sell; quantity = 100; symbol = codes "IBM     "; price = 100500; display = false; participant = codes "AB  " }) 5) ∷ []
-unfolding said_of command add_rule
+unfolding said_of command add_rule order_fields
 an_add = refl
 
 an_add_of_no_options : said_of command (codes "add 7 B 1 GAMMADLT 0.0001")
     ≡ Ok (1, Add (record { id = 7; side = Buy; quantity = 1; symbol = codes "GAMMADLT"; price = 1; display = true; participant = codes "    " }) 0) ∷ []
-unfolding said_of command add_rule
+unfolding said_of command add_rule order_fields
 an_add_of_no_options = refl
 
 an_execution : said_of command (codes "exec 1 2 3 at=4") ≡ Ok (1, Exec 1 2 3 4) ∷ []
@@ -39,7 +39,7 @@ a_modification = refl
 
 a_trade : said_of command (codes "trade 1 B 2 IBM 3.25 4 at=5")
     ≡ Ok (1, Trade (record { id = 1; side = Buy; quantity = 2; symbol = codes "IBM     "; price = 32500; display = true; participant = codes "    " }) 4 5) ∷ []
-unfolding said_of command trade_rule
+unfolding said_of command trade_rule order_fields
 a_trade = refl
 
 -- the second line is skipped, and counted

@@ -1,6 +1,6 @@
 //! Prints an entry of a schedule in its canonical words, with no field that has its default.
 
-ghost use Rattle.std.specs.Prelude.{◌≡◌, ◌++◌, ◌∷◌, [], OnOk, OnErr, Ok, decimal, map};
+ghost use Rattle.std.specs.Prelude.{◌≡◌, ◌++◌, ◌∷◌, [], OnOk, OnErr, Ok, codes, decimal, map};
 ghost use Rattle.pitch_fields.specs.Price.{price_digits};
 ghost use Rattle.pitch_text.specs.Printing.{spaced, hidden_words, mpid_words, number_words};
 ghost use Rattle.pitch_text.specs.Printing.{order_words, terms_words, setup_words, command_words};
@@ -59,41 +59,75 @@ fn push_verb(line: &mut Vec<u8>, verb: &Verb) -> Result<(), OutOfMemory>
             second,
             minute,
             day,
-        } => {
-            push_word(line, b"open")?;
-            push_limits(line, *hold, *kept, *second, *minute, *day)
-        }
+        } => push_setup(line, *hold, *kept, *second, *minute, *day),
         Verb::Flush => push_word(line, b"flush"),
         Verb::Beat => push_word(line, b"beat"),
         Verb::Deliver {
             line: source,
             number,
-        } => {
-            push_line_word(line, *source)?;
-            push_number(line, u64::from(*number))
-        }
-        Verb::Rest { line: source } => {
-            push_line_word(line, *source)?;
-            push_word(line, b"rest")
-        }
+        } => push_delivery(line, *source, Some(*number)),
+        Verb::Rest { line: source } => push_delivery(line, *source, None),
         Verb::Connect(session) => push_session(line, *session, b"open"),
         Verb::Cut(session) => push_session(line, *session, b"cut"),
-        Verb::Up { session, bytes } => {
-            push_session(line, *session, b"up")?;
-            push_count(line, b"all", *bytes)
-        }
-        Verb::Down { session, bytes } => {
-            push_session(line, *session, b"down")?;
-            push_count(line, b"all", *bytes)
-        }
+        Verb::Up { session, bytes } => push_carried(line, *session, b"up", *bytes),
+        Verb::Down { session, bytes } => push_carried(line, *session, b"down", *bytes),
         Verb::Advertise => push_word(line, b"advertise"),
         Verb::Tick => push_word(line, b"tick"),
         Verb::Show => push_word(line, b"show"),
-        Verb::Quote { symbol } => {
-            push_word(line, b"quote")?;
-            push_symbol(line, *symbol)
-        }
+        Verb::Quote { symbol } => push_quote(line, *symbol),
     }
+}
+
+// The words of an `open`.
+#[tactic(auto, using(crate::proofs::WordLemmas::spaced_append))]
+fn push_setup(
+    line: &mut Vec<u8>,
+    hold: u32,
+    kept: u32,
+    second: u32,
+    minute: u32,
+    day: u32,
+) -> Result<(), OutOfMemory>
+    ensures { OnOk result
+        (line.new.items ≡ line.old.items ++ spaced (codes "open" ∷ setup_words hold kept second minute day)) }
+{
+    push_word(line, b"open")?;
+    push_named(line, b"hold=", DEFAULT_HOLD, hold)?;
+    push_named(line, b"kept=", DEFAULT_KEPT, kept)?;
+    push_named(line, b"second=", DEFAULT_SECOND, second)?;
+    push_named(line, b"minute=", DEFAULT_MINUTE, minute)?;
+    push_named(line, b"day=", DEFAULT_DAY, day)
+}
+
+// A line's word, and the number of a datagram, or that the rest is meant.
+fn push_delivery(line: &mut Vec<u8>, source: Line, number: Option<u32>) -> Result<(), OutOfMemory>
+    ensures { OnOk result (line.new.items ≡ line.old.items
+        ++ spaced (line_word source ∷ count_word (codes "rest") number ∷ [])) }
+{
+    push_line_word(line, source)?;
+    push_count(line, b"rest", number)
+}
+
+// A session's word, the word of a direction, and how many bytes are carried.
+fn push_carried(
+    line: &mut Vec<u8>,
+    session: Session,
+    word: &[u8],
+    bytes: Option<u32>,
+) -> Result<(), OutOfMemory>
+    ensures { OnOk result (line.new.items ≡ line.old.items
+        ++ spaced (session_word session ∷ word.now ∷ count_word (codes "all") bytes ∷ [])) }
+{
+    push_session(line, session, word)?;
+    push_count(line, b"all", bytes)
+}
+
+fn push_quote(line: &mut Vec<u8>, symbol: Symbol) -> Result<(), OutOfMemory>
+    ensures { OnOk result
+        (line.new.items ≡ line.old.items ++ spaced (codes "quote" ∷ name_of symbol ∷ [])) }
+{
+    push_word(line, b"quote")?;
+    push_symbol(line, symbol)
 }
 
 // The words of a command, each with a space before it.
@@ -295,25 +329,6 @@ fn push_offset(line: &mut Vec<u8>, offset: u32) -> Result<(), OutOfMemory>
     ensures { OnOk result (line.new.items ≡ line.old.items ++ spaced (at_words offset)) }
 {
     push_named(line, b"at=", 0, offset)
-}
-
-#[tactic(auto, using(crate::proofs::WordLemmas::spaced_append))]
-fn push_limits(
-    line: &mut Vec<u8>,
-    hold: u32,
-    kept: u32,
-    second: u32,
-    minute: u32,
-    day: u32,
-) -> Result<(), OutOfMemory>
-    ensures { OnOk result
-        (line.new.items ≡ line.old.items ++ spaced (setup_words hold kept second minute day)) }
-{
-    push_named(line, b"hold=", DEFAULT_HOLD, hold)?;
-    push_named(line, b"kept=", DEFAULT_KEPT, kept)?;
-    push_named(line, b"second=", DEFAULT_SECOND, second)?;
-    push_named(line, b"minute=", DEFAULT_MINUTE, minute)?;
-    push_named(line, b"day=", DEFAULT_DAY, day)
 }
 
 // `name=` and a number, where it is not the default.

@@ -205,40 +205,50 @@ fn printed_lines(rt: HostRuntime) {
 // Commands between lines that have none.
 const TEXT: &[u8] = b"\n# none\nclear\r\n  end x\n\nend at=1\n# last\nclear 2";
 
-const END: Result<CommandEntry, TextError> = Ok(CommandEntry {
-    line: 6,
-    command: Command::EndSession { offset: 1 },
-});
+// What an item says: its line and the offset of its `clear` or its `end`, or its fault.
+#[derive(Clone, Copy, PartialEq, Eq)]
+enum Said {
+    Clear(u32, u32),
+    End(u32, u32),
+    Fault(TextError),
+    Other,
+}
+
+fn said(item: Result<CommandEntry, TextError>) -> Said {
+    let entry = match item {
+        Ok(entry) => entry,
+        Err(fault) => return Said::Fault(fault),
+    };
+    match entry.command {
+        Command::Clear { offset } => Said::Clear(entry.line, offset),
+        Command::EndSession { offset } => Said::End(entry.line, offset),
+        _ => Said::Other,
+    }
+}
 
 // The items of a text are these, and then no more.
-fn are_items(rt: &impl Abort, text: &[u8], wants: &[Result<CommandEntry, TextError>]) {
+fn are_items(rt: &impl Abort, text: &[u8], wants: &[Said]) {
     assert!(rt; text.len() < 1000);
     let mut items = Commands::of_text(text);
     for want in wants {
-        assert!(rt; items.next() == Some(*want));
+        let item = items.next().expect(rt, "an item");
+        assert!(rt; said(item) == *want);
     }
-    assert!(rt; items.next() == None);
-    assert!(rt; items.next() == None);
+    assert!(rt; items.next().is_none());
+    assert!(rt; items.next().is_none());
 }
 
 #[test]
 fn a_text_line_by_line(rt: HostRuntime) {
-    let wants = [clear_at(3), bad_word_at(4, 7), END, bad_word_at(8, 7)];
+    let wants = [Said::Clear(3, 0), bad_word_at(4, 7), Said::End(6, 1), bad_word_at(8, 7)];
     are_items(&rt, TEXT, &wants);
     are_items(&rt, b"", &[]);
     are_items(&rt, b"\n\n", &[]);
-    are_items(&rt, b"clear\n", &[clear_at(1)]);
+    are_items(&rt, b"clear\n", &[Said::Clear(1, 0)]);
 }
 
-fn clear_at(line: u32) -> Result<CommandEntry, TextError> {
-    Ok(CommandEntry {
-        line,
-        command: Command::Clear { offset: 0 },
-    })
-}
-
-fn bad_word_at(line: u32, column: u32) -> Result<CommandEntry, TextError> {
-    Err(TextError::Bad {
+fn bad_word_at(line: u32, column: u32) -> Said {
+    Said::Fault(TextError::Bad {
         line,
         column,
         cause: TextCause::BadWord,

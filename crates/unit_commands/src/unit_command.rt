@@ -8,7 +8,7 @@ use text_lines::{Fault, Grammar, LineFields, Lines, read_number};
 
 /// A command of a text, the unit that it is for, 1 to 255, and the number of its line, counted from
 /// 1.
-#[derive(Clone, Copy, PartialEq, Eq)]
+#[derive(Clone, Copy)]
 pub struct UnitCommandEntry {
     pub line: u32,
     pub unit: u8,
