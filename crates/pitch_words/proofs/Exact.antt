@@ -1,6 +1,6 @@
 -- The words are a form exactly where clap takes them and finds the form.
-use Rattle.std.proofs.Common.{◌≡◌, ◌∙◌, ℕ, ◌-◌, ◌^◌, Bool, true, false, refl, sym, ap, subst, List, [], Option, Some, None, true≢false}
-use Rattle.std.specs.Prelude.{MatchOption, codes}
+use Rattle.std.proofs.Common.{◌≡◌, ◌∙◌, ℕ, ◌≤◌, ◌-◌, ◌^◌, arith, Bool, true, false, refl, sym, ap, subst, List, [], Option, Some, None, true≢false}
+use Rattle.std.specs.Prelude.{IfSome, MatchOption, codes}
 use Rattle.std.specs.List.{All, list_all}
 use Rattle.std.specs.Str.{IsUtf8, bytes_eq}
 use Rattle.std.proofs.lemmas.Slice.Eq.{bytes_eq-Decides}
@@ -13,8 +13,9 @@ use Rattle.long_options.specs.Found.{Options}
 use Rattle.long_options.specs.layers.Finding.{found_options}
 use Rattle.long_options.proofs.Program.{calls_taken, takes_calls}
 use Rattle.pitch_words.specs.Numbers.{IsGivenNumber, IsGivenOr, IsGivenMaybe}
+use Rattle.pitch_fields.specs.Limits.{most_held}
 use Rattle.pitch_words.specs.Forms.{HasNumbers, IsForm, command_of}
-use Rattle.pitch_words.specs.layers.Commands.{HasForm, commands, pitch}
+use Rattle.pitch_words.specs.layers.Commands.{HasForm, IsInRange, commands, pitch}
 use Rattle.pitch_words.specs.declared.form.Form.{Form}
 use Rattle.pitch_text.specs.Defaults.{default_hold}
 use Rattle.pitch_words.specs.declared.form.Form.TheVariants.{Follow, FollowCapture, Show, Pack, Replay, Storm, Drill, Demo, Relay, Quotes, Audit}
@@ -77,6 +78,36 @@ numbers_same options (Quotes m) (Quotes n) e a b = ap Quotes (given_or_same defa
 numbers_same options Audit Audit e a b = refl
 numbers_same options _ _ e a b = cc
 
+given_in_range : (least most : ℕ) (o : Option Text) (n : ℕ) → IsGivenNumber least most o n → (least ≤ n) × (n ≤ most)
+given_in_range least most None n a = absurd a
+given_in_range least most (Some t) n a = (a.3, a.4)
+
+given_or_in_range : (default least most : ℕ) (o : Option Text) (n : ℕ) → (least ≤ default) × (default ≤ most) → IsGivenOr default least most o n → (least ≤ n) × (n ≤ most)
+given_or_in_range default least most None n fits a = subst (λ (m : ℕ). (least ≤ m) × (m ≤ most)) (sym a) fits
+given_or_in_range default least most (Some t) n fits a = (a.3, a.4)
+
+hold_in_range : (o : Option Text) (n : ℕ) → IsGivenOr default_hold 1 most_held o n → (1 ≤ n) × (n ≤ most_held)
+hold_in_range o n a = given_or_in_range default_hold 1 most_held o n (omega arith, omega arith) a
+
+workers_in_range : (o : Option Text) (n : ℕ) → IsGivenOr 1 1 64 o n → (1 ≤ n) × (n ≤ 64)
+workers_in_range o n a = given_or_in_range 1 1 64 o n (omega arith, omega arith) a
+
+-- the numbers of a form lie within their ranges
+in_range : (options : Options) (form : Form) → HasNumbers options form → IsInRange form
+in_range options (Follow hold) a = hold_in_range (options.value (codes "hold")) hold a.2
+in_range options (FollowCapture port hold) a = hold_in_range (options.value (codes "hold")) hold a.2
+in_range options Show a = tt
+in_range options (Pack unit) a = given_in_range 1 255 (options.value (codes "unit")) unit a
+in_range options (Replay workers) a = workers_in_range (options.value (codes "workers")) workers a
+in_range options (Storm number units steps workers) a =
+    (given_in_range 1 16 (options.value (codes "units")) units a.1, given_in_range 1 10000 (options.value (codes "steps")) steps a.2, workers_in_range (options.value (codes "workers")) workers a.3)
+in_range options (Drill number units count) a =
+    (given_in_range 1 16 (options.value (codes "units")) units a.1, given_in_range 1 100000 (options.value (codes "count")) count a.2)
+in_range options (Demo number count) a = given_in_range 1 1000 (options.value (codes "count")) count a.1
+in_range options (Relay hold) a = hold_in_range (options.value (codes "hold")) hold a
+in_range options (Quotes hold) a = hold_in_range (options.value (codes "hold")) hold a
+in_range options Audit a = tt
+
 -- ---- whatever the forms are
 
 commands_plain : list_all is_plain commands ≡ true
@@ -127,3 +158,8 @@ pub as_found : (words : List Text) (texts : All IsUtf8 words) (b : Bool) (rows :
     → (fault_of pitch words ≡ []) × (rows ≡ subcommand_of pitch words) → MatchOption r ((form : Form) → HasForm rows form → ⊥) (HasForm rows) → MatchOption r (IsNone words) (IsForm words)
 as_found words texts b rows None is e (takes, at) h = λ form f. h form (subst (λ x. HasForm x form) (sym at) (form_taken words form f).1)
 as_found words texts b rows (Some form) is e (takes, at) h = form_found words form texts (sym is ∙ e) takes (subst (λ x. HasForm x form) at h)
+
+pub found_in_range : (rows : Option (Text × List Row)) (r : Option Form) → MatchOption r ((form : Form) → HasForm rows form → ⊥) (HasForm rows) → IfSome r IsInRange
+found_in_range rows None found = tt
+found_in_range None (Some form) found = absurd found
+found_in_range (Some rows) (Some form) found = in_range (found_options (command_of form).1 rows.1) form found.1

@@ -1,3 +1,4 @@
 pub mod Pitch
 pub mod Rows
 pub mod Exact
+pub mod Building

@@ -6,7 +6,7 @@ ghost use Rattle.clap.specs.Simple.{subcommand_rows_of};
 ghost use Rattle.long_options.specs.layers.Finding.{is_set};
 ghost use Rattle.clap.specs.Walk.{first_of, rows_of};
 ghost use Rattle.pitch_words.specs.Numbers.{IsGivenNumber, IsGivenOr, IsGivenMaybe, IsNumber};
-ghost use Rattle.pitch_words.specs.layers.Commands.{HasForm, IsInRange, follow_form};
+ghost use Rattle.pitch_words.specs.layers.Commands.{HasForm, follow_form};
 ghost use Rattle.pitch_words.specs.declared.form.Form.{Form};
 
 use crate::form::Form;
@@ -92,9 +92,7 @@ fn is_given(matches: &ArgMatches, name: &str) -> bool
 
 // The form of `follow`: a port is given only for a capture.
 fn follow_form(pcap: bool, port: Option<u16>, hold: u32) -> Option<Form>
-    requires hold { 1 ≤ hold × hold ≤ 65536 }
     ensures form { result ≡ follow_form pcap port hold }
-    ensures range { IfSome result IsInRange }
 {
     if pcap {
         return Some(Form::FollowCapture { port, hold });
@@ -121,7 +119,6 @@ fn follow(matches: &ArgMatches) -> Option<Form>
     ensures form { MatchOption result
         ((form : Form) → ¬ HasForm (Some (codes "follow", rows_of (found_of matches.now))) form)
         (HasForm (Some (codes "follow", rows_of (found_of matches.now)))) }
-    ensures range { IfSome result IsInRange }
 {
     let hold = given_or(matches, "hold", u64::from(DEFAULT_HOLD), 1, 65536)?;
     let port = given_maybe(matches, "port", 0, 65535)?;
@@ -133,7 +130,6 @@ fn pack(matches: &ArgMatches) -> Option<Form>
     ensures form { MatchOption result
         ((form : Form) → ¬ HasForm (Some (codes "pack", rows_of (found_of matches.now))) form)
         (HasForm (Some (codes "pack", rows_of (found_of matches.now)))) }
-    ensures range { IfSome result IsInRange }
 {
     let unit = given(matches, "unit", 1, 255)?;
     Some(Form::Pack { unit: unit as u8 })
@@ -144,7 +140,6 @@ fn replay(matches: &ArgMatches) -> Option<Form>
     ensures form { MatchOption result
         ((form : Form) → ¬ HasForm (Some (codes "replay", rows_of (found_of matches.now))) form)
         (HasForm (Some (codes "replay", rows_of (found_of matches.now)))) }
-    ensures range { IfSome result IsInRange }
 {
     let workers = given_or(matches, "workers", 1, 1, 64)?;
     Some(Form::Replay {
@@ -157,7 +152,6 @@ fn storm(matches: &ArgMatches) -> Option<Form>
     ensures form { MatchOption result
         ((form : Form) → ¬ HasForm (Some (codes "storm", rows_of (found_of matches.now))) form)
         (HasForm (Some (codes "storm", rows_of (found_of matches.now)))) }
-    ensures range { IfSome result IsInRange }
 {
     let number = given(matches, "number", 0, u64::MAX)?;
     let units = given(matches, "units", 1, 16)?;
@@ -176,7 +170,6 @@ fn drill(matches: &ArgMatches) -> Option<Form>
     ensures form { MatchOption result
         ((form : Form) → ¬ HasForm (Some (codes "drill", rows_of (found_of matches.now))) form)
         (HasForm (Some (codes "drill", rows_of (found_of matches.now)))) }
-    ensures range { IfSome result IsInRange }
 {
     let number = given(matches, "number", 0, u64::MAX)?;
     let units = given(matches, "units", 1, 16)?;
@@ -193,7 +186,6 @@ fn demo(matches: &ArgMatches) -> Option<Form>
     ensures form { MatchOption result
         ((form : Form) → ¬ HasForm (Some (codes "demo", rows_of (found_of matches.now))) form)
         (HasForm (Some (codes "demo", rows_of (found_of matches.now)))) }
-    ensures range { IfSome result IsInRange }
 {
     let number = given(matches, "number", 0, u64::MAX)?;
     let count = given(matches, "count", 1, 1000)?;
@@ -208,7 +200,6 @@ fn relay(matches: &ArgMatches) -> Option<Form>
     ensures form { MatchOption result
         ((form : Form) → ¬ HasForm (Some (codes "relay", rows_of (found_of matches.now))) form)
         (HasForm (Some (codes "relay", rows_of (found_of matches.now)))) }
-    ensures range { IfSome result IsInRange }
 {
     let places = given_or(matches, "hold", u64::from(DEFAULT_HOLD), 1, 65536)?;
     Some(Form::Relay {
@@ -221,7 +212,6 @@ fn quotes(matches: &ArgMatches) -> Option<Form>
     ensures form { MatchOption result
         ((form : Form) → ¬ HasForm (Some (codes "quotes", rows_of (found_of matches.now))) form)
         (HasForm (Some (codes "quotes", rows_of (found_of matches.now)))) }
-    ensures range { IfSome result IsInRange }
 {
     let places = given_or(matches, "hold", u64::from(DEFAULT_HOLD), 1, 65536)?;
     Some(Form::Quotes {
@@ -236,7 +226,6 @@ fn form_in(name: &str, matches: &ArgMatches) -> Option<Form>
       rows_of
           (found_of matches.now),
     )) form) (HasForm (Some (name.now, rows_of (found_of matches.now)))) }
-    ensures range { IfSome result IsInRange }
 {
     match name {
         "follow" => follow(matches),
@@ -257,7 +246,6 @@ fn form_in(name: &str, matches: &ArgMatches) -> Option<Form>
 pub(crate) fn form_of(matches: &ArgMatches) -> Option<Form>
     ensures form { MatchOption result ((form : Form) → ¬ HasForm
         (subcommand_rows_of matches.now) form) (HasForm (subcommand_rows_of matches.now)) }
-    ensures range { IfSome result IsInRange }
 {
     let (name, inner) = matches.subcommand()?;
     form_in(name, inner)
