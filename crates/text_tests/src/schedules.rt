@@ -214,7 +214,7 @@ enum Said {
     Other,
 }
 
-fn said(item: Result<CommandEntry, TextError>) -> Said {
+fn says(item: Result<CommandEntry, TextError>) -> Said {
     let entry = match item {
         Ok(entry) => entry,
         Err(fault) => return Said::Fault(fault),
@@ -232,7 +232,7 @@ fn are_items(rt: &impl Abort, text: &[u8], wants: &[Said]) {
     let mut items = Commands::of_text(text);
     for want in wants {
         let item = items.next().expect(rt, "an item");
-        assert!(rt; said(item) == *want);
+        assert!(rt; says(item) == *want);
     }
     assert!(rt; items.next().is_none());
     assert!(rt; items.next().is_none());
@@ -240,7 +240,12 @@ fn are_items(rt: &impl Abort, text: &[u8], wants: &[Said]) {
 
 #[test]
 fn a_text_line_by_line(rt: HostRuntime) {
-    let wants = [Said::Clear(3, 0), bad_word_at(4, 7), Said::End(6, 1), bad_word_at(8, 7)];
+    let wants = [
+        Said::Clear(3, 0),
+        bad_word_at(4, 7),
+        Said::End(6, 1),
+        bad_word_at(8, 7),
+    ];
     are_items(&rt, TEXT, &wants);
     are_items(&rt, b"", &[]);
     are_items(&rt, b"\n\n", &[]);
