@@ -88,8 +88,8 @@ fn push_setup(
     minute: u32,
     day: u32,
 ) -> Result<(), OutOfMemory>
-    ensures { OnOk result
-        (line.new.items ≡ line.old.items ++ spaced (codes "open" ∷ setup_words hold kept second minute day)) }
+    ensures { OnOk result (line.new.items ≡ line.old.items
+        ++ spaced (codes "open" ∷ setup_words hold kept second minute day)) }
 {
     push_word(line, b"open")?;
     push_named(line, b"hold=", DEFAULT_HOLD, hold)?;
