@@ -3,3 +3,4 @@ pub mod Rows
 pub mod Naming
 pub mod Sharing
 pub mod Examples
+pub mod Building
