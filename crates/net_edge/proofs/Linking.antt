@@ -24,7 +24,6 @@ use Rattle.client_core.specs.declared.client.UnitClient.{UnitClient}
 use Rattle.client_links.specs.Linking.{Lookups, NoLookup, LinkStands, link_tells}
 use Rattle.client_links.specs.Telling.{without_spare}
 use Rattle.spin_path.specs.Paths.{heard_all}
-use Rattle.spin_path.proofs.Moves.{spare_is_unheard}
 use Rattle.world_model.specs.State.{Connection, Pipe}
 use Rattle.client_end.specs.layers.Hearing.{HearsItems}
 use Rattle.client_end.proofs.Told as of_link

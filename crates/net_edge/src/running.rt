@@ -13,6 +13,7 @@ ghost use Rattle.pitch_model.specs.History.{Entry};
 ghost use Rattle.pitch_model.specs.Levels.{shares};
 ghost use Rattle.pitch_model.specs.Status.{status_of};
 ghost use Rattle.client_core.specs.Client.{current_book};
+ghost use Rattle.client_end.specs.Links.{gap_link as gap_setup, spin_link as spin_setup};
 ghost use Rattle.feed_lines.specs.UnitLine.{unit_line};
 ghost use Rattle.world_model.specs.Ends.{the_account};
 ghost use Rattle.net_edge.specs.declared.error.DemoError.TheVariants as errors;
@@ -22,7 +23,7 @@ ghost use Rattle.net_edge.specs.Due.{Setting, setting, demo_unit, call_room, hol
 ghost use Rattle.net_edge.specs.Due.{kept_messages};
 ghost use Rattle.net_edge.specs.layers.Markets.{SideAt};
 ghost use Rattle.net_edge.specs.layers.Playing.{NetCounts, ClientHas, SpinHas, EndsHave, DemoAt};
-ghost use Rattle.net_edge.specs.layers.Playing.{Plays, calls_before, all_put};
+ghost use Rattle.net_edge.specs.layers.Playing.{LinkHas, Plays, ProxyHas, calls_before, all_put};
 ghost use Rattle.net_edge.specs.Scene.{Scene, first_scene, said_at};
 ghost use Rattle.net_edge.specs.layers.Sending.{DoesDemo, SendsPieces};
 ghost use Rattle.net_edge.specs.Turns.{IsOver};
@@ -74,6 +75,26 @@ fn room(alloc: Global) -> Result<Vec<u8>, OutOfMemory>
     Ok(vec![in alloc; 0u8; 65535]?)
 }
 
+// The client's end at the proxy, which says its login.
+fn gap_link(alloc: Global, login: &mut Vec<u8>) -> Result<GapLink, OutOfMemory>
+    requires { login.old.items ≡ [] }
+    ensures has { IfOk result (λ link. LinkHas gap_setup link []) }
+    ensures says { OnOk result (login.new.items ≡ said_at GrpClient first_scene) }
+{
+    let link = GapLink::make(alloc, &account(), login)?;
+    Ok(link)
+}
+
+// The client's end at the Spin Server, which says its login.
+fn spin_link(alloc: Global, login: &mut Vec<u8>) -> Result<SpinLink, OutOfMemory>
+    requires { login.old.items ≡ [] }
+    ensures has { IfOk result (λ link. LinkHas (spin_setup demo_unit) link []) }
+    ensures says { OnOk result (login.new.items ≡ said_at SpinClient first_scene) }
+{
+    let link = SpinLink::make(alloc, 1, &account(), login)?;
+    Ok(link)
+}
+
 // How many messages the client holds.
 fn demo_hold() -> HoldLimit
     ensures { result ≡ hold_limit }
@@ -84,7 +105,46 @@ fn demo_hold() -> HoldLimit
     limit
 }
 
-// The ends are made; both links say their logins.
+// The client, which has heard nothing.
+fn client(alloc: Global) -> Result<UnitClient, OutOfMemory>
+    ensures { IfOk result (λ client. ClientHas client []) }
+{
+    let client = UnitClient::make(alloc, demo_hold())?;
+    Ok(client)
+}
+
+// The ends of a run that begins.
+fn ends_of(
+    alloc: Global,
+    proxy: Proxy,
+    spin: SpinServer,
+    gap_link: GapLink,
+    spin_link: SpinLink,
+    client: UnitClient,
+) -> Ends
+    requires proxy { ProxyHas proxy [] (record { now = 0; accepted = [] }) }
+    requires spin { SpinHas spin [] }
+    requires gap_link { LinkHas gap_setup gap_link [] }
+    requires spin_link { LinkHas (spin_setup demo_unit) spin_link [] }
+    requires client { ClientHas client [] }
+    ensures { EndsHave result (all_put first_scene) }
+{
+    Ends {
+        alloc,
+        proxy,
+        spin,
+        gap_link,
+        spin_link,
+        client,
+        grp_cut: false,
+        spin_cut: false,
+        grp_ended: false,
+        spin_ended: false,
+    }
+}
+
+// The ends are made; both links say their logins. Where one can't be made, the others are dropped
+// by calls: a function that drops them itself, at each `?`, takes a minute to prove.
 fn make_ends(
     alloc: Global,
     login: &mut Vec<u8>,
@@ -96,23 +156,25 @@ fn make_ends(
     ensures login { OnOk result (login.new.items ≡ said_at GrpClient first_scene) }
     ensures spin_login { OnOk result (spin_login.new.items ≡ said_at SpinClient first_scene) }
 {
-    let gap_link = GapLink::make(alloc, &account(), login)?;
-    let spin_link = SpinLink::make(alloc, 1, &account(), spin_login)?;
-    let proxy = Proxy::make(alloc, account())?;
-    let spin = spin_server(alloc)?;
-    let client = UnitClient::make(alloc, demo_hold())?;
-    Ok(Ends {
-        alloc,
-        proxy,
-        spin,
-        gap_link,
-        spin_link,
-        client,
-        grp_cut: false,
-        spin_cut: false,
-        grp_ended: false,
-        spin_ended: false,
-    })
+    match (
+        Proxy::make(alloc, account()),
+        spin_server(alloc),
+        gap_link(alloc, login),
+        spin_link(alloc, spin_login),
+        client(alloc),
+    ) {
+        (Ok(proxy), Ok(spin), Ok(gap_link), Ok(spin_link), Ok(client)) => {
+            Ok(ends_of(alloc, proxy, spin, gap_link, spin_link, client))
+        }
+        (proxy, spin, gap_link, spin_link, client) => {
+            drop(proxy);
+            drop(spin);
+            drop(gap_link);
+            drop(spin_link);
+            drop(client);
+            Err(OutOfMemory)
+        }
+    }
 }
 
 // The net is set up; this comes once, before a run.
@@ -278,7 +340,9 @@ fn demo_over<N: Net, M: VenueSide>(
         (N.faults net.old) (N.faults net.new) out.old.items out.new.items }
 {
     let mut parts = make_parts(alloc)?;
-    play(net, market, &mut parts, number, count, out)
+    let played = play(net, market, &mut parts, number, count, out);
+    drop(parts);
+    played
 }
 
 /// Does what [`demo`] does, with servers that answer from a gap store and a shelf of images. It is
@@ -296,7 +360,9 @@ pub fn demo_plain<N: Net>(
     ensures pieces { SendsPieces (setting number count) (N.calls net.old) (N.calls net.new) }
 {
     let mut market = Market::make(alloc, 1, DEFAULT_KEPT)?;
-    demo_over(alloc, net, &mut market, number, count, out)
+    let shown = demo_over(alloc, net, &mut market, number, count, out);
+    drop(market);
+    shown
 }
 
 // A demo whose servers answer from the pair that was opened, under its name.
@@ -319,7 +385,11 @@ fn demo_of<J: Naming, R: FixedRun, W: Wait, N: Net>(
         (N.faults net.old) (N.faults net.new) out.old.items out.new.items }
 {
     match SharedMarket::<J, R, &W>::open(rt, alloc, opened) {
-        Ok(mut market) => demo_over(alloc, net, &mut market, number, count, out),
+        Ok(mut market) => {
+            let shown = demo_over(alloc, net, &mut market, number, count, out);
+            drop(market);
+            shown
+        }
         Err(MakeError::NoPlace) => demo_plain(alloc, net, number, count, out),
         Err(MakeError::OutOfMemory) => Err(DemoError::OutOfMemory),
     }

@@ -4,10 +4,10 @@ use Rattle.net_edge.proofs.running.demo_over.Goals as goal
 
 pub returns : goal.returns
 returns g c = record {
-  ran = on_ok_weaker c.play.result (λ played. played c.in_ok-parts.ensures.ends c.in_ok-parts.ensures.login c.in_ok-parts.ensures.spin_login c.requires.new) c.play.ensures.played;
-  broke = IfErr-weaker c.play.result _ _ (λ error broke. broke c.in_ok-parts.ensures.ends c.in_ok-parts.ensures.login c.in_ok-parts.ensures.spin_login c.requires.new) c.play.ensures.broke;
-  counts = c.play.ensures.faults;
-  err = c.play.ensures.err;
+  ran = on_ok_weaker c.play-played.result (λ played. played c.in_ok-parts.ensures.ends c.in_ok-parts.ensures.login c.in_ok-parts.ensures.spin_login c.requires.new) c.play-played.ensures.played;
+  broke = IfErr-weaker c.play-played.result _ _ (λ error broke. broke c.in_ok-parts.ensures.ends c.in_ok-parts.ensures.login c.in_ok-parts.ensures.spin_login c.requires.new) c.play-played.ensures.broke;
+  counts = c.play-played.ensures.faults;
+  err = c.play-played.ensures.err;
 }
 
 pub returns-in_err-parts : goal.returns-in_err-parts
