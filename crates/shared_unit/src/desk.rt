@@ -5,10 +5,10 @@ ghost use Rattle.shared_unit.specs.layers.Histories.{IsLegal, then_done};
 ghost use Rattle.shared_unit.specs.layers.Moments.{IsNew, IsPublished, cut};
 ghost use Rattle.shared_unit.specs.layers.Stored.{AreBlank, ComesAfter, HasSequences, operation_of};
 
-use crate::book::{Book, Eye, Opened, Right};
+use crate::book::{Book, Eye, Named, Opened, Right};
 use crate::holder::Holder;
 use crate::past::Past;
-use crate::published::What;
+use crate::published::{Shelves, What};
 use crate::run::{FixedRun, Naming};
 use crate::server::Server;
 use crate::store::{Published, Store};
@@ -74,9 +74,55 @@ fn add<J: Naming, R: FixedRun>(
     (after, published)
 }
 
+// The two copies, of which nothing was done. They keep at most two operations for the other copy.
+// Room for them is taken here, so that no later one wants memory.
+#[tactic(auto, using(crate::proofs::Growing::grown_none))]
+fn hold<J: Naming, R: FixedRun, W: Wait + Drop>(
+    rt: W,
+    alloc: Global,
+    first: Shelves,
+    second: Shelves,
+    none: &Past<J, R>,
+    servers: u8,
+) -> Result<Holder<Store<J, R>, Published<J, R>, W>, OutOfMemory>
+    requires none { none.now ≡ [] }
+    requires first { AreBlank J.kept first }
+    requires second { AreBlank J.kept second }
+    requires some { 0 < servers }
+    ensures nothing { IfOk result (λ holder. holder.0 ≡ []) }
+    ensures idle { IfOk result (λ holder. holder.1 ≡ []) }
+{
+    let first = Store::new(first, none.again());
+    let second = Store::new(second, none.again());
+    let mut holder = Holder::new(alloc, rt, first, second, servers)?;
+    match make_room(&mut holder, none) {
+        Ok(()) => Ok(holder),
+        Err(error) => {
+            drop(holder);
+            Err(error)
+        }
+    }
+}
+
+// Publishes nothing, twice.
+#[tactic(auto, using(crate::proofs::Growing::grown_none))]
+fn make_room<J: Naming, R: FixedRun, W: Wait + Drop>(
+    holder: &mut Holder<Store<J, R>, Published<J, R>, W>,
+    none: &Past<J, R>,
+) -> Result<(), OutOfMemory>
+    requires nothing { holder.old.0 ≡ [] }
+    requires idle { holder.old.1 ≡ [] }
+    requires none { none.now ≡ [] }
+    ensures nothing { OnOk result (holder.new.0 ≡ []) }
+    ensures idle { OnOk result (holder.new.1 ≡ []) }
+{
+    holder.push(Published::nothing(none.again()))?;
+    holder.push(Published::nothing(none.again()))?;
+    Ok(())
+}
+
 impl<J: Naming, R: FixedRun, W: Wait + Drop> Desk<J, R, W> {
     // The pair that was opened, under its name.
-    #[tactic(auto, using(crate::proofs::Growing::grown_none))]
     pub(crate) fn open(
         rt: W,
         alloc: Global,
@@ -88,29 +134,37 @@ impl<J: Naming, R: FixedRun, W: Wait + Drop> Desk<J, R, W> {
         ensures reaches { IfOk result (λ desk. desk.cut_off ≡ false) }
     {
         let servers = opened.servers;
-        let named = opened.named::<J>();
-        // nobody else opened this pair, so the right is there
-        let Some(right) = Right::first(&named.book, &named.front) else {
-            return Err(OutOfMemory);
-        };
-        let none = Past::none(named.front);
-        let first = Store::new(named.first, none.again());
-        let second = Store::new(named.second, none.again());
-        let mut holder = Holder::new(alloc, rt, first, second, servers)?;
-        // The pair keeps at most two operations for the other copy. Room for them is taken here, so
-        // that no later one wants memory.
-        holder.push(Published::nothing(none.again()))?;
-        holder.push(Published::nothing(none.again()))?;
-        Ok(Desk {
-            holder,
-            book: Arc::new(alloc, named.book)?,
-            right,
-            cut_off: false,
-            past: none.again(),
-            eye: named.eye.again(),
-            none,
-            shut: named.eye,
-        })
+        let Named {
+            book,
+            eye,
+            front,
+            first,
+            second,
+        } = opened.named::<J>();
+        let right = Right::first(&book, &front);
+        let none = Past::none(front);
+        let holder = hold(rt, alloc, first, second, &none, servers);
+        match (right, holder, Arc::new(alloc, book)) {
+            (Some(right), Ok(holder), Ok(book)) => Ok(Desk {
+                holder,
+                book,
+                right,
+                cut_off: false,
+                past: none.again(),
+                eye: eye.again(),
+                none,
+                shut: eye,
+            }),
+            // nobody else opened this pair, so the right is there
+            (right, holder, book) => {
+                drop(right);
+                drop(holder);
+                drop(book);
+                drop(none);
+                drop(eye);
+                Err(OutOfMemory)
+            }
+        }
     }
 
     // What is known of the history.
