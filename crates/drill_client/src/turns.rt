@@ -371,23 +371,29 @@ fn end(
     Ok(())
 }
 
-// Plays all commands, with a market that has accepted nothing, and hands back the client.
-fn play_all(alloc: Global, market: &mut Market, course: Course) -> Result<UnitClient, OutOfMemory>
+// Plays all commands, with a market that has accepted nothing and a client that begins.
+fn play_all(
+    alloc: Global,
+    market: &mut Market,
+    client: &mut UnitClient,
+    course: Course,
+) -> Result<(), OutOfMemory>
     requires count { (1 ≤ course.count) × (course.count ≤ most_drilled) }
     requires new { MarketHas market.old (new_journal course.unit drill_kept) }
+    requires begun { Follows client.old drill_kept (plan course.number course.unit course.count)
+        (plain_history course.number course.unit course.count 0) }
     ensures played { OnOk result
         (HasPlayed market.new course.number course.unit course.count course.count) }
     // It has heard just what the commands bring, and what it was answered.
-    ensures heard { IfOk result (λ client. Follows client drill_kept (plan course.number course.unit
-        course.count) (plain_history course.number course.unit course.count course.count)) }
+    ensures heard { OnOk result (Follows client.new drill_kept
+        (plan course.number course.unit course.count)
+        (plain_history course.number course.unit course.count course.count)) }
 {
-    plan_is_in_order();
-    let mut client = begin(alloc, drill_hold())?;
     let mut heard = 0;
     'commands: for before in 0..course.count {
-        play(alloc, market, &mut client, &mut heard, course, before + 1)?;
+        play(alloc, market, client, &mut heard, course, before + 1)?;
     }
-    Ok(client)
+    Ok(())
 }
 
 // The client takes what it lacks after all commands, and the unit's line is appended.
@@ -411,7 +417,29 @@ fn end_with(
     Ok(())
 }
 
-// The same from the first command on, with a market that has accepted nothing.
+// The same from the first command on, with a market that has accepted nothing and a client that
+// begins.
+fn play_with(
+    alloc: Global,
+    market: &mut Market,
+    client: &mut UnitClient,
+    course: Course,
+    out: &mut Vec<u8>,
+) -> Result<(), OutOfMemory>
+    requires count { (1 ≤ course.count) × (course.count ≤ most_drilled) }
+    requires new { MarketHas market.old (new_journal course.unit drill_kept) }
+    requires begun { Follows client.old drill_kept (plan course.number course.unit course.count)
+        (plain_history course.number course.unit course.count 0) }
+    ensures ok { OnOk result (out.new.items
+        ≡ out.old.items ++ drill_line course.number course.unit course.count) }
+    ensures err { OnErr result (out.new.items ≡ out.old.items) }
+{
+    play_all(alloc, market, client, course)?;
+    end_with(alloc, market, client, course, out)
+}
+
+// The same with a client that is made for it. What is large is dropped by a call, which is cheaper
+// to prove than a drop at each end.
 fn play_to_end(
     alloc: Global,
     market: &mut Market,
@@ -424,8 +452,11 @@ fn play_to_end(
         ≡ out.old.items ++ drill_line course.number course.unit course.count) }
     ensures err { OnErr result (out.new.items ≡ out.old.items) }
 {
-    let mut client = play_all(alloc, market, course)?;
-    end_with(alloc, market, &mut client, course, out)
+    plan_is_in_order();
+    let mut client = begin(alloc, drill_hold())?;
+    let played = play_with(alloc, market, &mut client, course, out);
+    drop(client);
+    played
 }
 
 /// Plays a unit's drill on one thread: a venue accepts the first `count` commands of the plan, and
@@ -451,5 +482,7 @@ pub fn drill_plain(
         count,
     };
     let mut market = Market::make(alloc, unit, KEPT)?;
-    play_to_end(alloc, &mut market, course, out)
+    let played = play_to_end(alloc, &mut market, course, out);
+    drop(market);
+    played
 }

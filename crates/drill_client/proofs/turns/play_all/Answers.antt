@@ -1,4 +1,4 @@
-use Rattle.std.proofs.Common.{◌≡◌, ℕ, List, ◌+◌, ◌-◌, ◌≤◌, sym, ◌∙◌, subst, arith}
+use Rattle.std.proofs.Common.{◌≡◌, ℕ, List, ◌+◌, ◌-◌, sym, ◌∙◌, subst, arith}
 use Rattle.venue_core.proofs.PlanBooks.{plan_begins}
 use Rattle.pitch_model.specs.History.{Entry, Raw}
 use Rattle.unit_market.specs.Markets.{MarketHas}
@@ -7,7 +7,7 @@ use Rattle.venue_core.specs.Plan.{plan}
 use Rattle.drill_client.specs.layers.Following.{Follows}
 use Rattle.drill_client.specs.layers.Played.{plain_history}
 use Rattle.drill_client.specs.layers.Turns.{journal_at, HasPlayed}
-use Rattle.drill_client.proofs.Played.{rounds_begin, count_begins, count_next, history_begins, history_next}
+use Rattle.drill_client.proofs.Played.{rounds_begin, count_begins, count_next, history_next}
 use Rattle.drill_client.proofs.turns.play_all.Goals as goal
 
 pub commands-init : goal.commands-init
@@ -15,15 +15,12 @@ commands-init c =
     let number : ℕ = c.args.course.number in
     let unit : ℕ = c.args.course.unit in
     let count : ℕ = c.args.course.count in
-    let few : count ≤ 400000 = omega (arith, c.requires.count.1) in
     record {
       played =
           subst (λ (ns : List ℕ). MarketHas c.args.market.now (record (journal_at number unit count 0 0 0) { advertised = ns })) (sym (rounds_begin count))
           (subst (λ (V : List Raw). MarketHas c.args.market.now (record (new_journal unit 4096) { messages = V })) (sym (plan_begins number unit)) c.requires.new);
       count = sym (count_begins number unit);
-      follows =
-          subst (λ (H : ℕ). Follows c.in_ok-client.client H (plan number unit count) (plain_history number unit count 0)) c.drill_hold.ensures
-          (subst (λ (E : List Entry). Follows c.in_ok-client.client c.drill_hold.result (plan number unit count) E) (sym (history_begins number unit count)) (c.in_ok-client.ensures (plan number unit count) (c.plan_is_in_order.ensures.bytes number unit count few)));
+      follows = c.requires.begun;
     }
 
 pub play-requires-clause-played : goal.play-requires-clause-played
