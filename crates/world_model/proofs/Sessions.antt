@@ -347,13 +347,16 @@ module _ (x session : Session) (same : x ≡ session) where
       → o ≡ option_map (λ k. length (waiting k.down)) (connection_of x s)
   down_in w s o has is = subst (λ (y : Session). o ≡ option_map (λ k. length (waiting k.down)) (connection_of y s)) (sym same) (is w.unit (connection_of session s) (has_place session w s has))
 
-  pub opens_in : (w : World) (c : JoinedOf session) → HasPlace session (Some c) w.unit (Some (connection (login_of w.unit session))) → (s : State) → WorldHas w s → connection_of x s ≡ None → Passes w (with_place session (Some c) w) s (opened w.unit x s)
-  opens_in w c is = subst (λ (y : Session). (s : State) → WorldHas w s → connection_of y s ≡ None → Passes w (with_place session (Some c) w) s (opened w.unit y s)) (sym same) (λ s has none. passes_opened session w c s has none is)
+  pub opens_in : (w : World) (place : Option (JoinedOf session)) (c : JoinedOf session) → place ≡ Some c → HasPlace session (Some c) w.unit (Some (connection (login_of w.unit session))) → (s : State) → WorldHas w s → connection_of x s ≡ None
+      → Passes w (with_place session place w) s (opened w.unit x s)
+  opens_in w place c now is = subst (λ (p : Option (JoinedOf session)). (s : State) → WorldHas w s → connection_of x s ≡ None → Passes w (with_place session p w) s (opened w.unit x s)) (sym now)
+      (subst (λ (y : Session). (s : State) → WorldHas w s → connection_of y s ≡ None → Passes w (with_place session (Some c) w) s (opened w.unit y s)) (sym same) (λ s has none. passes_opened session w c s has none is))
 
-  pub ends_in : (w : World) (client : UnitClient) (s : State) → WorldHas w s → Tracks client w.limits.hold (down_of session ∷ s.heard)
+  pub ends_in : (w : World) (client : UnitClient) (place : Option (JoinedOf session)) → place ≡ None → (s : State) → WorldHas w s → Tracks client w.limits.hold (down_of session ∷ s.heard)
       → ((V : List Raw) → IsImage image V → (H : ℕ) (E : List Entry) → Tracks w.client H E → Honest image V (down_of session ∷ E) → Keeps w.client V → Keeps client V)
-      → Passes w (with_place session None (record w { client = client })) s (ended x s)
-  ends_in w client s has tracks keeps = subst (λ (y : Session). Passes w (with_place session None (record w { client = client })) s (ended y s)) (sym same) (passes_ended session w client s has tracks keeps)
+      → Passes w (with_place session place (record w { client = client })) s (ended x s)
+  ends_in w client place now s has tracks keeps = subst (λ (p : Option (JoinedOf session)). Passes w (with_place session p (record w { client = client })) s (ended x s)) (sym now)
+      (subst (λ (y : Session). Passes w (with_place session None (record w { client = client })) s (ended y s)) (sym same) (passes_ended session w client s has tracks keeps))
 
   pub ticks_in : (w : World) (place : Option (JoinedOf session)) (s : State) → WorldHas w s
       → ((unit : ℕ) (g : Option (Connection (LooksIn session))) → HasPlace session (place_of session w) unit g → HasPlace session place unit (option_map (λ k. at_link (link_of unit session) Ticked k) g))

@@ -59,10 +59,10 @@ impl Connection<GrpServer, ProxyPeer> {
         ensures { IfOk result
             (λ c. IsGrpConnection c unit (connection (login_of unit Grp))) }
     {
-        let mut login = Vec::new(alloc);
-        let link = GapLink::make(alloc, &account(), &mut login)?;
         let mut accounts = Vec::new(alloc);
         accounts.push(account())?;
+        let mut login = Vec::new(alloc);
+        let link = GapLink::make(alloc, &account(), &mut login)?;
         Ok(GrpConnection {
             alloc,
             server: GrpServer::make(alloc, unit, accounts, false),

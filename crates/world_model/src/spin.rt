@@ -44,10 +44,10 @@ impl Connection<SpinServer, SpinPeer> {
         ensures { IfOk result (λ c.
             IsSpinConnection c unit (connection (login_of unit Spin))) }
     {
-        let mut login = Vec::new(alloc);
-        let link = SpinLink::make(alloc, unit, &account(), &mut login)?;
         let mut accounts = Vec::new(alloc);
         accounts.push(account())?;
+        let mut login = Vec::new(alloc);
+        let link = SpinLink::make(alloc, unit, &account(), &mut login)?;
         Ok(SpinConnection {
             alloc,
             server: SpinServer::make(alloc, unit, accounts, false),

@@ -390,12 +390,12 @@ impl World {
         match session {
             Session::Grp => {
                 let c = GrpConnection::make(self.alloc, self.unit)?;
-                self.grp = Some(c);
+                drop(self.grp.replace(c));
                 Ok(())
             }
             Session::Spin => {
                 let c = SpinConnection::make(self.alloc, self.unit)?;
-                self.spin = Some(c);
+                drop(self.spin.replace(c));
                 Ok(())
             }
         }
@@ -421,12 +421,12 @@ impl World {
         match session {
             Session::Grp => {
                 let _change = self.client.hear(&Item::GrpDown)?;
-                self.grp = None;
+                drop(self.grp.take());
                 Ok(())
             }
             Session::Spin => {
                 let _change = self.client.hear(&Item::SpinDown)?;
-                self.spin = None;
+                drop(self.spin.take());
                 Ok(())
             }
         }
