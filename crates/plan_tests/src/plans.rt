@@ -2,6 +2,7 @@
 //! them second by second.
 
 use pitch_messages::Raw;
+use pitch_text::Command;
 use std::alloc::Global;
 use std::process::Abort;
 use unit_commands::UnitCommands;
@@ -66,16 +67,50 @@ fn take_second(
     InputRead::Failed
 }
 
-// The text says these commands of each unit, command by command, from the index on: how many.
-fn says(rt: &impl Abort, text: &[u8], number: u64, units: &[u8], count: u32, first: u32) -> u32 {
-    assert!(rt; text.len() < 100_000 && units.len() == 2);
+// A venue that has accepted the first commands of fifty.
+fn venue_after(rt: &impl Abort, alloc: Global, number: u64, unit: u8, first: u32) -> Venue {
+    let mut venue = Venue::make(alloc, unit);
+    for before in 0..first {
+        let command = made_command(number, unit, 50, before + 1);
+        assert!(rt; venue.accept(&command) == Ok(before + 1));
+    }
+    venue
+}
+
+// A venue makes the same message of two commands, and accepts it.
+fn are_same(rt: &impl Abort, venue: &mut Venue, said: &Command, made: &Command) {
+    let one = venue.prepare(said).expect(rt, "accepted");
+    let other = venue.prepare(made).expect(rt, "accepted");
+    assert!(rt; one.bytes() == other.bytes());
+    assert!(rt; venue.accept(made).is_ok());
+    drop(one);
+    drop(other);
+}
+
+// The text says the commands of fifty of each of two units, command by command, that come behind
+// those that their venues have accepted: how many.
+fn says(
+    rt: &impl Abort,
+    text: &[u8],
+    number: u64,
+    units: (u8, u8),
+    first: u32,
+    venues: (&mut Venue, &mut Venue),
+) -> u32 {
+    assert!(rt; text.len() < 100_000);
     let mut line = 0;
     for item in UnitCommands::of_text(text) {
         assert!(rt; line < 100_000 && first < 100_000 && item.is_ok());
         if let Ok(entry) = item {
-            let unit = units[(line % 2) as usize];
-            let command = made_command(number, unit, count, first + line / 2 + 1);
-            assert!(rt; entry.unit == unit && entry.command == command);
+            let is_first = line % 2 == 0;
+            let unit = if is_first { units.0 } else { units.1 };
+            let command = made_command(number, unit, 50, first + line / 2 + 1);
+            assert!(rt; entry.unit == unit);
+            if is_first {
+                are_same(rt, venues.0, &entry.command, &command);
+            } else {
+                are_same(rt, venues.1, &entry.command, &command);
+            }
         }
         line += 1;
     }
@@ -96,7 +131,11 @@ fn is_given(rt: &impl Abort, alloc: Global, into: &mut [u8]) {
     for (first, lines, answer) in &turns {
         let mut text = Vec::new(alloc);
         assert!(rt; take_second(rt, &mut plan, into, &mut text) == *answer);
-        assert!(rt; says(rt, &text, 7, &units, 50, *first) == *lines);
+        let mut third = venue_after(rt, alloc, 7, 3, *first);
+        let mut last = venue_after(rt, alloc, 7, 255, *first);
+        assert!(rt; says(rt, &text, 7, (3, 255), *first, (&mut third, &mut last)) == *lines);
+        drop(third);
+        drop(last);
         plan.second();
     }
 }

@@ -294,11 +294,27 @@ const PLAN: [(u64, u8, u32, &str); 10] = [
     ),
 ];
 
+// A venue makes the same message of the plan's command and of a text's.
+fn are_same(rt: &impl Abort, venue: &mut Venue, planned: &Command, said: &Command) {
+    let one = venue.prepare(planned).expect(rt, "accepted");
+    let other = venue.prepare(said).expect(rt, "accepted");
+    assert!(rt; one.bytes() == other.bytes());
+    drop(one);
+    drop(other);
+}
+
+// A trade needs no command before it, and the last one has very many.
 fn are_planned(rt: &impl Abort, alloc: Global, plan: &[(u64, u8, u32, &str)]) {
     for (number, unit, index, text) in plan {
         assert!(rt; *index >= 1);
         let command = command_of(rt, alloc, text);
-        assert!(rt; plan_command(*number, *unit, *index) == command);
+        let mut venue = Venue::make(alloc, *unit);
+        if *index < 100 {
+            accept_plan(rt, &mut venue, *number, *unit, *index - 1);
+        }
+        let planned = plan_command(*number, *unit, *index);
+        are_same(rt, &mut venue, &planned, &command);
+        drop(venue);
     }
 }
 
