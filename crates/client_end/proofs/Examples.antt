@@ -10,7 +10,7 @@ use Rattle.pitch_model.specs.declared.ask.Ask.TheVariants.{Gap}
 use Rattle.pitch_model.specs.History.{Next, Ticked, GrpUp, GrpDown, SpinUp, SpinDown, Advertised}
 use Rattle.pitch_model.specs.Reach.{reach_of, held_count}
 use Rattle.session_ends.specs.Items.{stream_items}
-use Rattle.client_end.specs.Came.{Came, EndSetup, Heard, GrpMade, GrpTook, GrpCut, SpinMade, SpinTook, Second, end_after, end_history, to_proxy, to_spin_server}
+use Rattle.client_end.specs.Came.{Came, EndSetup, Heard, GrpMade, GrpTook, GrpCut, SpinMade, SpinTook, Second, end_after, end_history, second_ask, to_proxy, to_spin_server}
 
 -- an end of unit 7, whose hold has two places
 abbrev seven : EndSetup
@@ -56,6 +56,18 @@ behind = GrpTook (login_reply 65) ∷ GrpMade ∷ fourth_was_sent ∷ []
 four_are_asked_for : grp_bytes Second behind ≡ 17 ∷ 0 ∷ 1 ∷ 0 ∷ 0 ∷ 0 ∷ 0 ∷ 0 ∷ 9 ∷ 0x03 ∷ 7 ∷ 1 ∷ 0 ∷ 0 ∷ 0 ∷ 4 ∷ 0 ∷ []
 unfolding stream_items blocks_of blocks_by rest_of rest_by judge messages_end raws_of session_reads block_bytes session_written reach_of held_count
 four_are_asked_for = refl
+
+the_ask_of_that_second : second_ask seven (end_after seven behind) ≡ Some (Gap 1 4)
+unfolding stream_items blocks_of blocks_by rest_of rest_by judge messages_end raws_of session_reads reach_of held_count
+the_ask_of_that_second = refl
+
+-- the link closes by that second, the fifth without a word after the one of the reply, and nothing is asked
+abbrev nearly_silent : List Came
+nearly_silent = fourth_was_sent ∷ Second ∷ Second ∷ Second ∷ Second ∷ Second ∷ GrpTook (login_reply 65) ∷ GrpMade ∷ []
+
+nothing_by_a_link_that_closes : second_ask seven (end_after seven nearly_silent) ≡ None
+unfolding stream_items blocks_of blocks_by rest_of rest_by judge messages_end raws_of session_reads reach_of held_count
+nothing_by_a_link_that_closes = refl
 
 -- and no answer came a second later: the proxy owes one, so the link says a heartbeat alone
 a_heartbeat_meanwhile : grp_bytes Second (Second ∷ Second ∷ behind) ≡ heartbeat 0

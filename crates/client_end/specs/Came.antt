@@ -90,6 +90,10 @@ client_asks s now =
     let ask = ask_of s.hold now.heard in
     ask_sent s ask (record now { heard = entry.Ticked ask ∷ now.heard })
 
+-- what the client asks for at a second: what it lacks, by what it heard once both links ticked
+abbrev pub second_ask : EndSetup → EndState → Option Ask
+second_ask s now = ask_of s.hold (both_links_tick s now).heard
+
 -- ---- All that comes
 -- what an end stands for once this came
 abbrev pub end_step : EndSetup → Came → EndState → EndState
@@ -132,15 +136,14 @@ asks_spin_server s ask link = []
 abbrev pub to_proxy : EndSetup → Came → EndState → List ℕ
 to_proxy s GrpMade now = login_bytes GapLink 0 s.account
 to_proxy s Second now =
-    let ticked = both_links_tick s now in
-    place_says gap_link Ticked now.grp ++ asks_proxy s (ask_of s.hold ticked.heard) ticked.grp
+    place_says gap_link Ticked now.grp
+    ++ asks_proxy s (second_ask s now) (both_links_tick s now).grp
 to_proxy s came now = []
 
 -- and to the Spin Server
 abbrev pub to_spin_server : EndSetup → Came → EndState → List ℕ
 to_spin_server s SpinMade now = login_bytes SpinLink s.unit s.account
 to_spin_server s Second now =
-    let ticked = both_links_tick s now in
     place_says (spin_link s.unit) Ticked now.spin
-    ++ asks_spin_server s (ask_of s.hold ticked.heard) ticked.spin
+    ++ asks_spin_server s (second_ask s now) (both_links_tick s now).spin
 to_spin_server s came now = []

@@ -17,7 +17,7 @@ use client_core::{Change, UnitClient};
 use client_links::{GapLink, SpinLink};
 use order_book::UnitBook;
 use pitch_fields::{HoldLimit, OutOfMemory};
-use pitch_model::Status;
+use pitch_model::{Ask, Status};
 use session_ends::Account;
 use std::alloc::Global;
 use unit_packets::BlockView;
@@ -38,9 +38,9 @@ impl ClientEnd {
     ghost use Rattle.client_end.specs.Came.{EndSetup, EndState, Heard, GrpMade, GrpTook, GrpCut};
     ghost use Rattle.client_end.specs.Came.{GrpLost, SpinMade, SpinTook, SpinCut, SpinLost, Second};
     ghost use Rattle.client_end.specs.Came.{end_after, end_history, end_step};
-    ghost use Rattle.client_end.specs.Came.{to_proxy, to_spin_server};
+    ghost use Rattle.client_end.specs.Came.{second_ask, to_proxy, to_spin_server};
     ghost use Rattle.client_end.specs.Stands.{EndIs, EndStands, Failed, Loosely, OfEnd, Comes};
-    ghost use Rattle.client_end.specs.Stands.{LosesBoth, StandsStill};
+    ghost use Rattle.client_end.specs.Stands.{ClientHeard, LosesBoth, StandsStill};
 
     /// An end to which nothing came yet, whose client holds at most `limit` messages. It logs in
     /// with the account.
@@ -155,13 +155,16 @@ impl ClientEnd {
         hear_cut(&mut self.spin, &mut self.client);
     }
 
-    // A second passes. After OutOfMemory the links may have failed.
+    // A second passes. Answers what the client asks for. After OutOfMemory the links may have
+    // failed.
     fn pass_second(
         &mut self,
         grp_said: &mut Vec<u8>,
         spin_said: &mut Vec<u8>,
-    ) -> Result<(), OutOfMemory>
+    ) -> Result<Option<Ask>, OutOfMemory>
         ensures stands { OnOk result (Comes self.old self.new Second) }
+        ensures ask { IfOk result (λ ask. OfEnd self.old
+            (λ s before. ask ≡ second_ask s (end_after s before))) }
         ensures says_grp { OnOk result (OfEnd self.old (λ s before. grp_said.new.items
             ≡ grp_said.old.items ++ to_proxy s Second (end_after s before))) }
         ensures says_spin { OnOk result (OfEnd self.old (λ s before. spin_said.new.items
@@ -181,19 +184,22 @@ impl ClientEnd {
             grp_said,
             spin_said,
         )?;
-        Ok(())
+        Ok(ask)
     }
 
     /// A second passes: both links tick, then the client asks for what it lacks. What that says is
-    /// appended, for the proxy to `grp_said`, for the Spin Server to `spin_said`.
+    /// appended, for the proxy to `grp_said`, for the Spin Server to `spin_said`. Answers what the
+    /// client asks for, None where it asks for nothing.
     ///
     /// After OutOfMemory both connections are cut, and what was appended belongs to none.
     pub fn second(
         &mut self,
         grp_said: &mut Vec<u8>,
         spin_said: &mut Vec<u8>,
-    ) -> Result<(), OutOfMemory>
+    ) -> Result<Option<Ask>, OutOfMemory>
         ensures stands { OnOk result (Comes self.old self.new Second) }
+        ensures ask { IfOk result (λ ask. OfEnd self.old
+            (λ s before. ask ≡ second_ask s (end_after s before))) }
         ensures says_grp { OnOk result (OfEnd self.old (λ s before. grp_said.new.items
             ≡ grp_said.old.items ++ to_proxy s Second (end_after s before))) }
         ensures says_spin { OnOk result (OfEnd self.old (λ s before. spin_said.new.items
@@ -203,7 +209,7 @@ impl ClientEnd {
             → (end_after s before).spin ≡ None → IsOk result) }
     {
         match self.pass_second(grp_said, spin_said) {
-            Ok(()) => Ok(()),
+            Ok(ask) => Ok(ask),
             Err(error) => {
                 self.lose_both();
                 Err(error)
@@ -223,6 +229,14 @@ impl ClientEnd {
         ensures { OfEnd self.now (λ s before. result ≡ is_some (end_after s before).spin) }
     {
         self.spin.is_some()
+    }
+
+    /// Its client, which heard what came on the lines and what the links told.
+    pub fn client(&self) -> &UnitClient
+        ensures { OfEnd self.now
+            (λ s before. ClientHeard s.hold result.now (end_history s before)) }
+    {
+        &self.client
     }
 
     /// How far the client is.

@@ -18,5 +18,5 @@ mod session;
 pub use crate::end::ClientEnd;
 pub use crate::hearing::hear_told;
 pub use crate::laws::{blocks_alone_are_followed, seconds_without_connections_ask_nothing};
-pub use client_core::{Change, Status};
+pub use client_core::{Ask, Change, Status, UnitClient};
 pub use client_links::Account;

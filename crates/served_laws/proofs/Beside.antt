@@ -85,7 +85,7 @@ module _ (s : VenueSetup) where
   handed_pieces Second now are within = tt
   handed_pieces AllCut now are within = tt
 
-  all_pieces : (before : List VenueCame) → AreSequenced s.unit (venue_after s before).messages → AllByRecursion (IsPiece (venue_after s before).messages s.unit) (handed_out s before)
+  pub all_pieces : (before : List VenueCame) → AreSequenced s.unit (venue_after s before).messages → AllByRecursion (IsPiece (venue_after s before).messages s.unit) (handed_out s before)
   all_pieces [] are = tt
   all_pieces (came ∷ before) are =
       let now : VenueState = venue_after s before in
@@ -129,7 +129,7 @@ module _ (s : VenueSetup) (before : List VenueCame) (are : AreSequenced s.unit (
   comes client.SpinCut came may = tt
   comes client.Second came may = tt
 
-  all_come : (came : List Came) → ComesBeside s before came → ComesFrom V s.unit came
+  pub all_come : (came : List Came) → ComesBeside s before came → ComesFrom V s.unit came
   all_come [] all = tt
   all_come (new ∷ came) all = (comes new came all.0, all_come came all.1)
 
@@ -162,11 +162,11 @@ contained_first (z ∷ xs) ys x (zero, within, is) = (zero, omega arith, is)
 contained_first (z ∷ xs) ys x (suc k, within, is) = let rest = contained_first xs ys x (k, omega (arith, within), is) in (suc rest.0, let less = rest.1 in omega (arith, less), rest.2)
 
 module _ (s : VenueSetup) where
-  handed_on : (later before : List VenueCame) (datagram : List ℕ) → Contains (handed_out s before) datagram → Contains (handed_out s (later ++ before)) datagram
+  pub handed_on : (later before : List VenueCame) (datagram : List ℕ) → Contains (handed_out s before) datagram → Contains (handed_out s (later ++ before)) datagram
   handed_on [] before datagram is = is
   handed_on (new ∷ later) before datagram is = contained_first (handed_out s (later ++ before)) _ datagram (handed_on later before datagram is)
 
-  put_on : (later before : List VenueCame) (bytes : List ℕ) → IsPut s before bytes → IsPut s (later ++ before) bytes
+  pub put_on : (later before : List VenueCame) (bytes : List ℕ) → IsPut s before bytes → IsPut s (later ++ before) bytes
   put_on later before bytes is = record {
     later = later ++ is.later;
     first = is.first;
@@ -175,7 +175,7 @@ module _ (s : VenueSetup) where
     begins = is.begins;
   }
 
-  reaches_on : (later before : List VenueCame) (new : Came) (came : List Came) → MayReach s before new came → MayReach s (later ++ before) new came
+  pub reaches_on : (later before : List VenueCame) (new : Came) (came : List Came) → MayReach s before new came → MayReach s (later ++ before) new came
   reaches_on later before (Heard block) came may = record { datagram = may.datagram; sent = handed_on later before may.datagram may.sent; within = may.within }
   reaches_on later before (client.SpinTook bytes) came may = put_on later before (spin_bytes came ++ bytes) may
   reaches_on later before (client.SpinLost bytes count) came may = put_on later before (spin_bytes came ++ bytes) may

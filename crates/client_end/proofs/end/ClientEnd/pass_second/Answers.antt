@@ -26,6 +26,13 @@ returns-clause-stands c = λ s before is.
     let parts = c.in_ok-ask_through.ensures.has s c.tick-ask.new.self (record both { heard = Ticked c.tick-ask.result ∷ both.heard }) is.unit_is (record { has = has; grp_is = one.link_is; spin_is = two.link_is }) in
     record { unit_is = is.unit_is; account_is = is.account_is; parts = asks_so s _ _ _ both c.tick-ask.result asks parts }
 
+pub returns-clause-ask : goal.returns-clause-ask
+returns-clause-ask c = λ s before is.
+    let now : EndState = end_after s before in
+    let one = c.in_ok-hear_second.ensures.has s.hold gap_link (of_grp now) (record { link_is = is.parts.grp_is; has = is.parts.has }) in
+    let two = c.in_ok-hear_second-2.ensures.has s.hold (spin_link s.unit) (of_spin (grp_link_ticks now)) (record { link_is = is.parts.spin_is; has = one.has }) in
+    c.tick-ask.ensures.asks s.hold (both_links_tick s now).heard two.has.tracks
+
 pub returns-clause-says_grp : goal.returns-clause-says_grp
 returns-clause-says_grp c = λ s before is.
     let now : EndState = end_after s before in
