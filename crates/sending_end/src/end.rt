@@ -15,7 +15,7 @@ ghost use Rattle.heard_items.specs.Changes.{block_change};
 
 use crate::queue::{drop_sent, keep_where, take_front};
 use crate::session::Session;
-use client_end::{Account, Change, ClientEnd, Status};
+use client_end::{Account, Ask, Change, ClientEnd, Status, UnitClient};
 use order_book::UnitBook;
 use pitch_fields::{HoldLimit, OutOfMemory};
 use std::alloc::Global;
@@ -43,8 +43,8 @@ pub struct SendingEnd {
 impl SendingEnd {
     ghost use Rattle.client_end.specs.Came.{EndSetup, Heard, GrpMade, GrpTook, GrpCut, GrpLost};
     ghost use Rattle.client_end.specs.Came.{SpinMade, SpinTook, SpinCut, SpinLost, Second};
-    ghost use Rattle.client_end.specs.Came.{end_after, end_history};
-    ghost use Rattle.client_end.specs.Stands.{OfEnd};
+    ghost use Rattle.client_end.specs.Came.{end_after, end_history, second_ask};
+    ghost use Rattle.client_end.specs.Stands.{ClientHeard, OfEnd};
     ghost use Rattle.sending_end.specs.Waiting.{SendingStands, OfSending, StaysSo, Passes};
     ghost use Rattle.sending_end.specs.Waiting.{LosesAll, HearsBlocks, HearsBegun, NoneWaits};
     ghost use Rattle.sending_end.specs.Waiting.{WaitsStill, of_unit, made, took, ended, lost};
@@ -239,17 +239,20 @@ impl SendingEnd {
         }
     }
 
-    /// A second passes. After OutOfMemory both connections are cut, and nothing waits.
-    pub fn second(&mut self) -> Result<(), OutOfMemory>
+    /// A second passes. Answers what the client asks for, None where it asks for nothing. After
+    /// OutOfMemory both connections are cut, and nothing waits.
+    pub fn second(&mut self) -> Result<Option<Ask>, OutOfMemory>
         ensures passes { OnOk result (Passes self.old self.new Second) }
+        ensures ask { IfOk result (λ ask. OfSending self.old
+            (λ s before. ask ≡ second_ask s (end_after s before))) }
         ensures err { OnErr result (LosesAll self.old self.new) }
         ensures none { OfSending self.old (λ s before. (end_after s before).grp ≡ None
             → (end_after s before).spin ≡ None → IsOk result) }
     {
         match self.end.second(&mut self.grp_said, &mut self.spin_said) {
-            Ok(()) => {
+            Ok(ask) => {
                 self.settle();
-                Ok(())
+                Ok(ask)
             }
             Err(error) => {
                 self.grp_said.truncate(0);
@@ -319,6 +322,14 @@ impl SendingEnd {
             Session::Proxy => self.end.has_grp(),
             Session::SpinServer => self.end.has_spin(),
         }
+    }
+
+    /// The client of the end.
+    pub fn client(&self) -> &UnitClient
+        ensures { OfSending self.now
+            (λ s before. ClientHeard s.hold result.now (end_history s before)) }
+    {
+        self.end.client()
     }
 
     /// How far the client is.

@@ -12,4 +12,4 @@ mod session;
 
 pub use crate::end::{Passed, SendingEnd};
 pub use crate::session::Session;
-pub use client_end::{Account, Change, Status};
+pub use client_end::{Account, Ask, Change, Status, UnitClient};

@@ -16,3 +16,6 @@ returns-in-Ok-clause-passes c =
     } in
     let settled : Settled m c.settle.new.self = record { unit = c.settle.ensures.unit; end = c.settle.ensures.end; proxy = c.settle.ensures.proxy; spin_server = c.settle.ensures.spin_server } in
     passes_so e m c.settle.new.self Second so settled
+
+pub returns-in-Ok-clause-ask : goal.returns-in-Ok-clause-ask
+returns-in-Ok-clause-ask c = λ s before is. c.in-Ok.ensures.ask s before is.end_is
