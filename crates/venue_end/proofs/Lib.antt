@@ -1,4 +1,5 @@
 mod Examples
+pub mod Places
 pub mod Tables
 pub mod Feeding
 pub mod Ends

@@ -1,5 +1,5 @@
 -- When a venue's end stands for all that came to it.
-use Rattle.std.specs.Prelude.{◌≡◌, List, ◌∷◌}
+use Rattle.std.specs.Prelude.{◌≡◌, ◌≤◌, List, ◌∷◌, length, drop}
 use Rattle.std.specs.List.{AllZip}
 use Rattle.session_ends.specs.Ending.{Ending}
 use Rattle.session_ends.specs.Events.{Event}
@@ -28,12 +28,14 @@ pub record IsSpinServer (server : Serving) (s : VenueSetup) (es : List (Event (L
   pub made : server.end.setup ≡ spin_setup s
   pub stands : SpinStands server es
 
--- a session, by how its server stands: its number, what happened, and what waits
+-- a session, by how its server stands: its number, what happened, and what waits, which is what was
+-- said without the first bytes that were put
 pub record PlaceIs {S X : Type 0} (is_server : S → VenueSetup → List (Event X) → Type 0)
     (s : VenueSetup) (place : Place S) (session : Session X) : Type 0 where
   pub id_is : place.id ≡ session.id
   pub server : is_server place.server s session.happened
-  pub waits : place.said.items ≡ session.waiting
+  pub within : place.put ≤ length place.said.items
+  pub waits : drop place.put place.said.items ≡ session.waiting
 
 -- a table has these sessions, in their order
 abbrev pub TableIs : {S X : Type 0} → (S → VenueSetup → List (Event X) → Type 0)

@@ -1,7 +1,7 @@
 //! The sessions with a server, by the numbers that whoever owns the sockets gave them.
 
 ghost use Rattle.std.specs.Prelude.{◌≡◌, ◌==◌, ◌++◌, ℕ, List, [], ◌∷◌, OnOk, OnErr, position};
-ghost use Rattle.std.specs.Prelude.{is_some};
+ghost use Rattle.std.specs.Prelude.{is_some, drop};
 ghost use Rattle.session_ends.specs.Closing.{Setup, closed_of};
 ghost use Rattle.session_ends.specs.Events.{Event, Ticked};
 ghost use Rattle.venue_end.specs.Sessions.{Session, session_of, at_session, without, with_new};
@@ -40,12 +40,14 @@ pub(crate) trait Server: Drop {
             → stands self.old s es → said.new.items ≡ said.old.items ++ says s Ticked es) };
 }
 
-/// A session: its number, its server, and what that said and was not put yet.
+/// A session: its number, its server, what that said, and how many of the first bytes of that were
+/// put already.
 #[derive(Drop)]
 pub(crate) struct Place<S> {
     pub(crate) id: u32,
     pub(crate) server: S,
     pub(crate) said: Vec<u8>,
+    put: usize,
 }
 
 impl<S: Server> Place<S> {
@@ -58,15 +60,25 @@ impl<S: Server> Place<S> {
         self.server.pass_second(&mut self.said)
     }
 
-    // So many bytes of what waits were put, or all.
+    // What waits to be put.
+    fn waiting(&self) -> &[u8]
+        ensures { result.now ≡ drop self.now.put self.now.said.items }
+    {
+        &self.said[self.put.min(self.said.len())..]
+    }
+
+    // So many bytes of what waits were put, or all. The rest moves down once more than half was
+    // put, so that no more bytes move than are put.
     fn put(&mut self, count: usize)
         ensures { (s : VenueSetup) (session : Session S.Seen) → PlaceIs S.stands s self.old session
             → PlaceIs S.stands s self.new (puts count session) }
     {
-        if count < self.said.len() {
-            self.said.drain(..count);
-        } else {
-            self.said.clear();
+        let len = self.said.len();
+        self.put = self.put.saturating_add(count).min(len);
+        if self.put > len / 2 {
+            self.said.copy_within(self.put.., 0);
+            self.said.truncate(len - self.put);
+            self.put = 0;
         }
     }
 }
@@ -117,6 +129,7 @@ impl<S: Server> SessionTable<S> {
             id,
             server,
             said: Vec::new(self.alloc),
+            put: 0,
         })?;
         match before {
             None => Ok(()),
@@ -154,7 +167,7 @@ impl<S: Server> SessionTable<S> {
     {
         match self.find(id) {
             None => &[],
-            Some(at) => self.places[at].said.as_slice(),
+            Some(at) => self.places[at].waiting(),
         }
     }
 

@@ -1,4 +1,4 @@
-use Rattle.std.proofs.Common.{Option, sym, ap, ◌∙◌}
+use Rattle.std.proofs.Common.{Option, drop, sym, ap, ◌∙◌}
 use Rattle.venue_end.specs.Sessions.{Session, waiting_in}
 use Rattle.venue_end.proofs.Tables.{missing_at, seen_at}
 use Rattle.venue_end.proofs.table.SessionTable.said_to.Goals as goal
@@ -9,4 +9,4 @@ returns-in-None g c = λ s sessions are.
 
 pub returns-in-Some : goal.returns-in-Some
 returns-in-Some g c = λ s sessions are.
-    c.as_slice.ensures.value ∙ seen_at g.S.Server.stands s c.args.id c.in-Some.at c.args.self.now.places.items sessions c.index.result.now (λ o. waiting_in o) c.index.result.now.said.items (sym c.find.ensures ∙ c.in-Some.is) c.index.ensures are (λ k is. is.waits)
+    c.waiting.ensures ∙ seen_at g.S.Server.stands s c.args.id c.in-Some.at c.args.self.now.places.items sessions c.index.result.now (λ o. waiting_in o) (drop c.index.result.now.put c.index.result.now.said.items) (sym c.find.ensures ∙ c.in-Some.is) c.index.ensures are (λ k is. is.waits)
