@@ -1,7 +1,7 @@
 //! What the tests do with an end, in ample memory.
 
 use pitch_fields::HoldLimit;
-use sending_end::{Account, SendingEnd, Session};
+use sending_end::{Account, Ask, SendingEnd, Session};
 use std::process::Abort;
 
 /// The account that each end logs in with.
@@ -33,9 +33,9 @@ pub fn take(rt: &impl Abort, end: &mut SendingEnd, session: Session, bytes: &[u8
     end.took(session, bytes).expect(rt, "memory");
 }
 
-/// A second passes.
-pub fn pass_second(rt: &impl Abort, end: &mut SendingEnd) {
-    end.second().expect(rt, "memory");
+/// A second passes. Answers what the client asks for.
+pub fn pass_second(rt: &impl Abort, end: &mut SendingEnd) -> Option<Ask> {
+    end.second().expect(rt, "memory")
 }
 
 /// All that waits for a session, which is at most 32 bytes, taken by eight at a time.

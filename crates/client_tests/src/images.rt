@@ -2,7 +2,7 @@
 
 use crate::ends::{ACCOUNT, connect, end_of, hear, pass_second, sent, take};
 use pitch_messages::Raw;
-use sending_end::{SendingEnd, Session, Status};
+use sending_end::{Ask, SendingEnd, Session, Status};
 use spin_path::serve;
 use spin_server::{ImageShelf, SpinServer};
 use std::process::Abort;
@@ -63,7 +63,7 @@ fn lacks_one(rt: &impl Abort, end: &mut SendingEnd) {
 
 // Once logged in, the end asks for the image at the next second.
 fn asks(rt: &impl Abort, end: &mut SendingEnd) {
-    pass_second(rt, end);
+    assert!(rt; pass_second(rt, end) == Some(Ask::Spin { sequence: 1 }));
     assert!(rt; end.waiting(Session::Proxy) == 0);
     assert!(rt; end.waiting(Session::SpinServer) == 14);
 }

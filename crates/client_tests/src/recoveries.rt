@@ -2,7 +2,7 @@
 //! the Gap Request Proxy says.
 
 use crate::ends::{connect, end_of, hear, pass_second, sent, take};
-use sending_end::{SendingEnd, Session, Status};
+use sending_end::{Ask, SendingEnd, Session, Status};
 use std::process::Abort;
 
 // Message n adds order n, to buy 100 ABC at 1.00 and n hundredths.
@@ -29,7 +29,7 @@ fn log_in_and_ask<R: Abort + AllocGlobal>(rt: &R, end: &mut SendingEnd) {
     connect(rt, end, Session::Proxy);
     assert!(rt; sent(rt, end, Session::Proxy).as_slice() == LOGIN);
     take(rt, end, Session::Proxy, ACCEPTED);
-    pass_second(rt, end);
+    assert!(rt; pass_second(rt, end) == Some(Ask::Gap { first: 2, count: 1 }));
     assert!(rt; sent(rt, end, Session::Proxy).as_slice() == REQUEST);
     take(rt, end, Session::Proxy, GRANTED);
 }
@@ -49,6 +49,7 @@ fn a_lost_message_is_asked_for_and_heard(rt: HostRuntime) {
     hear(&rt, &mut end, FIRST);
     hear(&rt, &mut end, THIRD);
     assert!(rt; end.status() == Status::Behind { n: 1, top: 3 });
+    assert!(rt; end.client().held() == 1);
     recovers(&rt, &mut end);
     assert!(rt; end.status() == Status::Current { n: 3 });
     assert!(rt; end.book().len() == 3);

@@ -117,7 +117,8 @@ impl LiveUnit {
         ensures none { OfUnit self.old (λ s before. (end_after s before).grp ≡ None
             → (end_after s before).spin ≡ None → IsOk result) }
     {
-        self.end.second()
+        let _ask = self.end.second()?;
+        Ok(())
     }
 
     /// The bytes that wait for a session.

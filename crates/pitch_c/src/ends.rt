@@ -107,7 +107,7 @@ fn second(end: &mut SendingEnd) -> u32
     ensures { Ticks result end.old end.new }
 {
     match end.second() {
-        Ok(()) => OK,
+        Ok(_ask) => OK,
         Err(_) => NO_MEMORY,
     }
 }

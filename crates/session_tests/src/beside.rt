@@ -1,7 +1,7 @@
 //! A client's end beside a venue's end: the test carries what the venue hands out, and loses some.
 
 use crate::venue_ends::made;
-use client_end::{ClientEnd, Status};
+use client_end::{Ask, ClientEnd, Status};
 use pitch_fields::HoldLimit;
 use pitch_text::Command;
 use served_laws::book_beside;
@@ -59,7 +59,8 @@ fn logs_in(rt: &impl Abort, alloc: Global, venue: &mut VenueEnd, client: &mut Cl
 fn gets_the_image(rt: &impl Abort, alloc: Global, venue: &mut VenueEnd, client: &mut ClientEnd) {
     let mut to_proxy = Vec::new(alloc);
     let mut up = Vec::new(alloc);
-    client.second(&mut to_proxy, &mut up).expect(rt, "memory");
+    let ask = client.second(&mut to_proxy, &mut up).expect(rt, "memory");
+    assert!(rt; ask == Some(Ask::Spin { sequence: 1 }));
     venue.take_spin(SESSION, &up).expect(rt, "memory");
     assert!(rt; venue.pump_spin(SESSION) == Ok(true));
     assert!(rt; venue.pump_spin(SESSION) == Ok(false));
