@@ -5,6 +5,8 @@ use Rattle.std.proofs.lemmas.Grind.{common_steps}
 use Rattle.std.proofs.lemmas.List.{set_at, get_or_at}
 use Rattle.std.proofs.lemmas.List.Edits.{remove-append_left}
 use Rattle.session_ends.specs.Events.{Event}
+use Rattle.spin_server.specs.Serving.{Serving, blocks_left}
+use Rattle.venue_end.specs.Feeding.{left_in}
 use Rattle.venue_end.specs.Sessions.{Session, session_of, at_session, without, new_session, with_new}
 use Rattle.venue_end.specs.Stands.{PlaceIs}
 use Rattle.venue_end.specs.declared.setup.VenueSetup.{VenueSetup}
@@ -34,6 +36,34 @@ unplaced n l e = grind (arith, common_steps)
 remove_joined : {A : Type 0} → (xs : List A) (x : A) (ys : List A) → remove (xs ++ x ∷ ys) (length xs) ≡ xs ++ ys
 remove_joined {A} [] x ys = refl
 remove_joined {A} (z ∷ xs) x ys = ap (λ (zs : List A). z ∷ zs) (remove_joined xs x ys)
+
+-- ---- What is left of the image of the session of a number
+left_by : (id at : ℕ) (ps : List (Place Serving)) (old new : Place Serving) → at ≡ position_or_len (λ (p : Place Serving). p.id == id) ps → at < length ps → old ≡ get_or ps at old → new.id ≡ old.id
+    → (left_in id ps ≡ blocks_left old.server.spin) × (left_in id (set ps at new) ≡ blocks_left new.server.spin)
+left_by id at [] old new at_is lt read same = absurd (omega (arith, lt))
+left_by id at (p ∷ ps) old new at_is lt read same = by (p.id == id) at refl at_is lt read (λ n n_is below there. left_by id n ps old new n_is below there same)
+  where
+    by : (b : Bool) (at : ℕ) → (p.id == id) ≡ b → at ≡ cond (not b) (1 + position_or_len (λ (p : Place Serving). p.id == id) ps) 0 → at < suc (length ps) → old ≡ get_or (p ∷ ps) at old
+        → ((n : ℕ) → n ≡ position_or_len (λ (p : Place Serving). p.id == id) ps → n < length ps → old ≡ get_or ps n old → (left_in id ps ≡ blocks_left old.server.spin) × (left_in id (set ps n new) ≡ blocks_left new.server.spin))
+        → (left_in id (p ∷ ps) ≡ blocks_left old.server.spin) × (left_in id (set (p ∷ ps) at new) ≡ blocks_left new.server.spin)
+    by true zero is at_is lt read later = (
+      ap (λ (b : Bool). cond b (blocks_left p.server.spin) (left_in id ps)) is ∙ ap (λ (q : Place Serving). blocks_left q.server.spin) (sym read),
+      ap (λ (b : Bool). cond b (blocks_left new.server.spin) (left_in id ps)) (ap (λ (n : ℕ). n == id) (same ∙ ap (λ (q : Place Serving). q.id) read) ∙ is),
+    )
+    by true (suc n) is at_is lt read later = absurd (omega (arith, at_is))
+    by false zero is at_is lt read later = absurd (omega (arith, at_is))
+    by false (suc n) is at_is lt read later =
+        let rest = later n (omega (arith, at_is)) (omega (arith, lt)) read in
+        (ap (λ (b : Bool). cond b (blocks_left p.server.spin) (left_in id ps)) is ∙ rest.0, ap (λ (b : Bool). cond b (blocks_left p.server.spin) (left_in id (set ps n new))) is ∙ rest.1)
+
+pub fewer_at : (id at : ℕ) (ps : List (Place Serving)) (old new : Place Serving) → position (λ (p : Place Serving). p.id == id) ps ≡ Some at → old ≡ get_or ps at old → new.id ≡ old.id
+    → blocks_left new.server.spin < blocks_left old.server.spin → left_in id (set ps at new) < left_in id ps
+fewer_at id at ps old new e read same fewer =
+    let where_is = placed (position_or_len (λ (p : Place Serving). p.id == id) ps) (length ps) at e in
+    let left = left_by id at ps old new where_is.0 where_is.1 read same in
+    let before = left.0 in
+    let after = left.1 in
+    omega (arith, before, after, fewer)
 
 module _ {S X : Type 0} (is_server : S → VenueSetup → List (Event X) → Type 0) (s : VenueSetup) where
   abbrev R : Place S → Session X → Type 0

@@ -1,12 +1,13 @@
 -- What feeding a session does.
-use Rattle.std.specs.Prelude.{◌≡◌, ℕ, Bool, List, ◌∷◌, ◌++◌, Option, None, Some, false}
+use Rattle.std.specs.Prelude.{◌≡◌, ◌==◌, ℕ, Bool, List, [], ◌∷◌, ◌++◌, Option, None, Some, false}
+use Rattle.std.specs.Prelude.{if◌then◌else◌}
 use Rattle.session_ends.specs.Ending.{Ending}
 use Rattle.session_ends.specs.Answering.{Answer}
 use Rattle.session_ends.specs.Events.{Pumped}
 use Rattle.grp_session.specs.Budget.{Counts, Spent}
 use Rattle.grp_session.specs.Serving.{Source}
 use Rattle.spin_server.specs.Served.{Served}
-use Rattle.spin_server.specs.Serving.{runs}
+use Rattle.spin_server.specs.Serving.{Serving, blocks_left, runs}
 use Rattle.venue_end.specs.Servers.{spin_setup}
 use Rattle.venue_end.specs.Sessions.{Session, session_of, at_session}
 use Rattle.venue_end.specs.Came.{VenueState, answers_in, proxy_fed}
@@ -14,6 +15,7 @@ use Rattle.venue_end.specs.Stands.{BudgetIs, IsProxy, PlaceIs, TableIs}
 use Rattle.venue_end.specs.declared.setup.VenueSetup.{VenueSetup}
 use Rattle.venue_end.specs.declared.table.Place.{Place}
 use Rattle.venue_end.specs.declared.table.SessionTable.{SessionTable}
+use Rattle.venue_end.specs.declared.venue.VenueEnd.{VenueEnd}
 
 -- the budget counts what was accepted, and its datagrams are on the gap line
 pub record Spends (s : VenueSetup) (answer : Answer Spent) (budget : Counts)
@@ -37,3 +39,12 @@ pub record TableFed (s : VenueSetup) (now : VenueState) (id : ℕ) (bytes : List
 abbrev pub runs_on : VenueSetup → Option (Session (List Served)) → Bool
 runs_on s None = false
 runs_on s (Some session) = runs (spin_setup s) (Pumped ∷ session.happened)
+
+-- how many blocks of its image the session of a number has left; none where there is none
+abbrev pub left_in : ℕ → List (Place Serving) → ℕ
+left_in id [] = 0
+left_in id (place ∷ places) =
+    if place.id == id then blocks_left place.server.spin else left_in id places
+
+abbrev pub left_at : ℕ → VenueEnd → ℕ
+left_at id e = left_in id e.spins.places.items

@@ -1,16 +1,16 @@
 //! The sessions with the Spin Server.
 
-ghost use Rattle.std.specs.Prelude.{◌≡◌, ◌∷◌, ℕ, List, OnOk, OnErr, IfOk, IsOk, None};
+ghost use Rattle.std.specs.Prelude.{◌≡◌, ◌<◌, ◌∷◌, ℕ, List, OnOk, OnErr, IfOk, IsOk, None, true};
 ghost use Rattle.session_ends.specs.Events.{Pumped, Told};
 ghost use Rattle.spin_server.specs.Served.{Served};
-ghost use Rattle.spin_server.specs.Serving.{runs};
+ghost use Rattle.spin_server.specs.Serving.{blocks_left, runs};
 ghost use Rattle.unit_market.specs.Markets.{MarketHas};
 ghost use Rattle.venue_end.specs.Servers.{spin_setup, spin_says};
 ghost use Rattle.venue_end.specs.Sessions.{Session, session_of, at_session, without};
 ghost use Rattle.venue_end.specs.Sessions.{happens_at, happens_at_all};
 ghost use Rattle.venue_end.specs.Came.{VenueState, journal_in, spin_fed};
 ghost use Rattle.venue_end.specs.Stands.{IsSpinServer, PlaceIs, TableIs};
-ghost use Rattle.venue_end.specs.Feeding.{runs_on};
+ghost use Rattle.venue_end.specs.Feeding.{left_in, runs_on};
 ghost use Rattle.venue_end.specs.declared.setup.VenueSetup.{VenueSetup};
 
 use crate::table::{Place, Server, SessionTable};
@@ -60,6 +60,9 @@ impl Place<SpinServer> {
         ensures more { IfOk result (λ more. (s : VenueSetup) (session : Session (List Served))
             → PlaceIs IsSpinServer s self.old session
             → more ≡ runs (spin_setup s) (Pumped ∷ session.happened)) }
+        ensures fewer { IfOk result (λ more. more ≡ true
+            → blocks_left self.new.server.spin < blocks_left self.old.server.spin) }
+        ensures same_id { self.new.id ≡ self.old.id }
         ensures err { OnErr result ((s : VenueSetup) (session : Session (List Served))
             → PlaceIs IsSpinServer s self.old session → PlaceIs IsSpinServer s self.new session) }
     {
@@ -117,6 +120,8 @@ impl SessionTable<SpinServer> {
         ensures more { IfOk result (λ more. (s : VenueSetup)
             (sessions : List (Session (List Served))) → TableIs IsSpinServer s self.old sessions
             → more ≡ runs_on s (session_of id sessions)) }
+        ensures fewer { IfOk result (λ more. more ≡ true
+            → left_in id self.new.places.items < left_in id self.old.places.items) }
         ensures err { OnErr result ((s : VenueSetup) (sessions : List (Session (List Served)))
             → TableIs IsSpinServer s self.old sessions → TableIs IsSpinServer s self.new sessions) }
         ensures none { (s : VenueSetup) (sessions : List (Session (List Served)))

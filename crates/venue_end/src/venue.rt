@@ -1,7 +1,7 @@
 //! The end itself: what comes to it, and what it hands out.
 
 ghost use Rattle.std.specs.Prelude.{◌≡◌, ◌≤◌, ◌+◌, ◌⊎◌, ◌++◌, [], ◌∷◌, OnOk, OnErr, IfOk, IsOk};
-ghost use Rattle.std.specs.Prelude.{None, is_some, length};
+ghost use Rattle.std.specs.Prelude.{◌<◌, None, is_some, length, true};
 ghost use Rattle.std.specs.List.{AllByRecursion};
 ghost use Rattle.pitch_fields.specs.Limits.{most_held};
 ghost use Rattle.unit_packets.specs.Packing.{bytes_in};
@@ -45,7 +45,7 @@ impl VenueEnd {
     ghost use Rattle.venue_end.specs.Came.{venue_after, venue_step, on_lines, on_gap_line};
     ghost use Rattle.venue_end.specs.Stands.{VenueIs, CoreIs, VenueStands, OfVenue, Comes};
     ghost use Rattle.venue_end.specs.Stands.{ComesAndCuts, StandsStill};
-    ghost use Rattle.venue_end.specs.Feeding.{runs_on};
+    ghost use Rattle.venue_end.specs.Feeding.{left_at, runs_on};
     ghost use Rattle.venue_end.specs.declared.setup.VenueSetup.{VenueSetup};
 
     /// An end to which nothing came yet, with all memory of its store. Its proxy keeps at least 1
@@ -266,6 +266,9 @@ impl VenueEnd {
         ensures stands { OnOk result (Comes self.old self.new (SpinPumped id)) }
         ensures more { IfOk result (λ more. OfVenue self.old (λ s before.
             more ≡ runs_on s (session_of id (venue_after s before).spins))) }
+        // A session that still sends one has fewer blocks left, so calls in a row end it.
+        ensures fewer { IfOk result
+            (λ more. more ≡ true → left_at id self.new < left_at id self.old) }
         ensures err { OnErr result (StandsStill self.old self.new) }
         ensures none { OfVenue self.old
             (λ s before. session_of id (venue_after s before).spins ≡ None → IsOk result) }

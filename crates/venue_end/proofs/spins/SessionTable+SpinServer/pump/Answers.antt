@@ -7,7 +7,7 @@ use Rattle.venue_end.specs.Feeding.{runs_on}
 use Rattle.venue_end.specs.Servers.{spin_says}
 use Rattle.venue_end.specs.Sessions.{Session, happens_at}
 use Rattle.venue_end.specs.Stands.{IsSpinServer, PlaceIs}
-use Rattle.venue_end.proofs.Tables.{if_ok_map, missing_at, not_missing, becomes_at, seen_at, stays_at}
+use Rattle.venue_end.proofs.Tables.{fewer_at, if_ok_map, missing_at, not_missing, becomes_at, seen_at, stays_at}
 use Rattle.venue_end.proofs.spins.SessionTable+SpinServer.pump.Goals as goal
 
 pub returns-in-None-clause-pumps : goal.returns-in-None-clause-pumps
@@ -25,6 +25,10 @@ returns-in-Some-clause-pumps c = on_ok_map _ _ c.pump.result c.pump.ensures.pump
 pub returns-in-Some-clause-more : goal.returns-in-Some-clause-more
 returns-in-Some-clause-more c = if_ok_map _ _ c.pump.result c.pump.ensures.more (λ more is_more s sessions are.
     seen_at IsSpinServer s c.args.id c.in-Some.at c.args.self.now.places.items sessions c.index_mut.result.now (λ o. runs_on s o) more (sym c.find.ensures ∙ c.in-Some.is) c.index_mut.ensures.value are (is_more s))
+
+pub returns-in-Some-clause-fewer : goal.returns-in-Some-clause-fewer
+returns-in-Some-clause-fewer c = if_ok_map _ _ c.pump.result c.pump.ensures.fewer (λ more fewer on.
+    fewer_at c.args.id c.in-Some.at c.args.self.now.places.items c.index_mut.result.now c.pump.new.self (sym c.find.ensures ∙ c.in-Some.is) c.index_mut.ensures.value c.pump.ensures.same_id (fewer on))
 
 pub returns-in-Some-clause-err : goal.returns-in-Some-clause-err
 returns-in-Some-clause-err c = on_err_map _ _ c.pump.result c.pump.ensures.err (λ still s sessions are.
