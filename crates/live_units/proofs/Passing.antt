@@ -3,7 +3,8 @@ use Rattle.std.proofs.Common.{◌≡◌, ℕ, Bool, false, ◌||◌, List, ◌�
 use Rattle.std.specs.List.{list_any}
 use Rattle.std.specs.Result.{IsErr}
 use Rattle.client_end.specs.Came.{Came, EndSetup, GrpCut, SpinCut, Second, end_history}
-use Rattle.sending_end.specs.Waiting.{Passes, made, ended}
+use Rattle.sending_end.specs.Waiting.{made, ended}
+use Rattle.sending_end.specs.Stands.{Passes}
 use Rattle.sending_end.specs.declared.session.Session.{Session}
 use Rattle.sending_end.specs.declared.session.Session.TheVariants.{Proxy, SpinServer}
 use Rattle.stream_print.specs.Putting.{PutsSome}

@@ -4,7 +4,7 @@ use Rattle.std.proofs.Math.ListN.{set}
 use Rattle.std.proofs.lemmas.Bool.{cases_eq, cond-true, cond-false, eq-eqb, ne_eqb}
 use Rattle.std.proofs.lemmas.List.{append-nil}
 use Rattle.client_end.specs.Came.{Came, EndSetup}
-use Rattle.sending_end.specs.Waiting.{Passes, WaitsStill}
+use Rattle.sending_end.specs.Stands.{Passes, WaitsStill}
 use Rattle.sending_end.specs.declared.session.Session.{Session}
 use Rattle.unit_clients.specs.Tables.{AtEach, with_place}
 use Rattle.unit_clients.proofs.Placing.{each_set}

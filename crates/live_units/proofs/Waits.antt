@@ -4,7 +4,8 @@ use Rattle.std.specs.Option.{option_flatten}
 use Rattle.std.proofs.Math.ListN.{set}
 use Rattle.std.proofs.lemmas.Bool.{cases_eq, cond-true, cond-false}
 use Rattle.client_end.specs.Came.{Came, EndSetup, end_after}
-use Rattle.sending_end.specs.Waiting.{CameThen, NoneWaits, Passes, WaitsStill, waiting, waits_after}
+use Rattle.sending_end.specs.Waiting.{waits_after}
+use Rattle.sending_end.specs.Stands.{CameThen, NoneWaits, Passes, WaitsStill, waiting}
 use Rattle.sending_end.specs.declared.end.SendingEnd.{SendingEnd}
 use Rattle.sending_end.specs.declared.session.Session.{Session}
 use Rattle.sending_end.specs.declared.session.Session.TheVariants.{Proxy, SpinServer}

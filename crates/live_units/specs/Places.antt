@@ -5,7 +5,7 @@ use Rattle.unit_packets.specs.Blocks.{Block}
 use Rattle.pitch_model.specs.History.{Raw}
 use Rattle.feed_lines.specs.Follow.{line_at}
 use Rattle.client_end.specs.Came.{Heard, end_history}
-use Rattle.sending_end.specs.Waiting.{WaitsStill, waiting}
+use Rattle.sending_end.specs.Stands.{WaitsStill, waiting}
 use Rattle.sending_end.specs.declared.session.Session.{Session}
 use Rattle.stream_print.specs.Page.{Prints}
 use Rattle.stream_print.specs.declared.putting.PutFailed.{PutFailed}

@@ -7,8 +7,9 @@ use Rattle.pitch_model.specs.History.{Raw}
 use Rattle.pitch_model.specs.Honest.{Honest}
 use Rattle.pitch_model.specs.Image.{image}
 use Rattle.client_end.specs.Came.{Came, EndSetup, GrpCut, SpinCut, Second, end_history}
-use Rattle.sending_end.specs.Waiting.{NoneWaits, Passes, SendingStands, WaitsStill, lost, took}
-use Rattle.sending_end.specs.Waiting.{waiting}
+use Rattle.sending_end.specs.Waiting.{lost, took}
+use Rattle.sending_end.specs.Stands.{NoneWaits, Passes, SendingStands, WaitsStill}
+use Rattle.sending_end.specs.Stands.{waiting}
 use Rattle.sending_end.specs.declared.session.Session.{Session}
 use Rattle.stream_print.specs.Page.{Prints}
 use Rattle.stream_print.specs.Putting.{PutsSome}

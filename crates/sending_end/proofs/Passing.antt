@@ -4,7 +4,8 @@ use Rattle.std.proofs.lemmas.List.{append-nil}
 use Rattle.client_end.specs.Came.{Came, EndState, end_after, end_step, to_proxy, to_spin_server}
 use Rattle.client_end.specs.Stands.{OfEnd, EndStands}
 use Rattle.client_end.specs.declared.end.ClientEnd.{ClientEnd}
-use Rattle.sending_end.specs.Waiting.{Passes, kept_for, waited_for_proxy, waited_for_spin_server}
+use Rattle.sending_end.specs.Waiting.{kept_for, waited_for_proxy, waited_for_spin_server}
+use Rattle.sending_end.specs.Stands.{Passes}
 use Rattle.sending_end.specs.declared.end.SendingEnd.{SendingEnd}
 
 -- what waited for a connection that does not stand is dropped

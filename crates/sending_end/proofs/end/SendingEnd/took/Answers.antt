@@ -1,5 +1,6 @@
 use Rattle.std.proofs.Common.{ℕ, OnOk, OnErr, sym, subst}
-use Rattle.sending_end.specs.Waiting.{Passes, took, lost}
+use Rattle.sending_end.specs.Waiting.{took, lost}
+use Rattle.sending_end.specs.Stands.{Passes}
 use Rattle.sending_end.specs.declared.session.Session.{Session}
 use Rattle.sending_end.proofs.end.SendingEnd.took.Goals as goal
 
