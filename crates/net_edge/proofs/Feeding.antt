@@ -16,12 +16,12 @@ use Rattle.heard_items.proofs.Datagrams.{piece_more}
 use Rattle.venue_core.specs.Plan.{plan}
 use Rattle.venue_core.proofs.PlanBooks.{plan_length}
 use Rattle.venue_core.proofs.PlanBytes.{plan_prefix}
-use Rattle.world_model.specs.Ends.{grp_server}
+use Rattle.venue_end.specs.Servers.{proxy_setup}
 use Rattle.grp_session.proofs.Pieces.{Pieces, pieces_append}
 use Rattle.grp_session.proofs.Replies.{proxy_pieces, views_same}
 use Rattle.net_edge.specs.Acting.{scene_after, scene_of, source_at}
 use Rattle.net_edge.specs.Demo.{all_messages}
-use Rattle.net_edge.specs.Due.{Setting, IsDuePiece, AreDuePieces, demo_unit, accepted, messages, gap_view}
+use Rattle.net_edge.specs.Due.{Setting, IsDuePiece, AreDuePieces, demo_unit, demo_setup, accepted, messages, gap_view}
 use Rattle.net_edge.specs.layers.Playing.{proxy_said}
 use Rattle.net_edge.specs.Scene.{Scene, line_in}
 use Rattle.net_edge.specs.Steps.{Step, Did, Beat, Turn}
@@ -53,7 +53,7 @@ raws_at s raws turn = (all_split IsRaw (messages s turn) (later_messages s turn)
 -- what the proxy answers are pieces
 pub reply_pieces : (s : Setting) (bytes : List ℕ) (now : Scene) → AllByRecursion IsRaw (messages s now.turn) → length (messages s now.turn) ≤ last_sequence → AreDuePieces s now.turn (proxy_said s bytes now).lines
 reply_pieces s bytes now raws few =
-    proxy_pieces (messages s now.turn) demo_unit (omega arith) raws few (grp_server demo_unit) now.grp.server bytes (source_at s bytes now) refl
+    proxy_pieces (messages s now.turn) demo_unit (omega arith) raws few (proxy_setup demo_setup) now.grp.server bytes (source_at s bytes now) refl
     (views_same _ (gap_view s now.turn) (messages s now.turn) refl)
 
 -- ---- What was sent

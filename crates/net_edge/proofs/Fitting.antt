@@ -29,10 +29,10 @@ use Rattle.grp_session.specs.Asking.{datagrams_of}
 use Rattle.grp_session.specs.Budget.{Limits, Spent}
 use Rattle.grp_session.specs.Serving.{Source, message_answer, said_answer, grp_answer, proxy_answer}
 use Rattle.venue_core.specs.Losses.{is_lost}
-use Rattle.world_model.specs.Ends.{grp_server}
+use Rattle.venue_end.specs.Servers.{proxy_setup}
 use Rattle.net_edge.specs.Acting.{scene_after, scene_of, source_at}
 use Rattle.net_edge.specs.Demo.{all_messages, AreShort}
-use Rattle.net_edge.specs.Due.{Setting, demo_unit, accepted, messages, new_datagrams, copies, line_number, beat, beats, is_tenth, due, gap_view}
+use Rattle.net_edge.specs.Due.{Setting, demo_unit, demo_setup, accepted, messages, new_datagrams, copies, line_number, beat, beats, is_tenth, due, gap_view}
 use Rattle.net_edge.specs.Scene.{Scene}
 use Rattle.net_edge.specs.Steps.{Step, Did, Beat, Turn}
 use Rattle.net_edge.proofs.Feeding.{raws_at}
@@ -140,8 +140,8 @@ module _ (s : Setting) (raws : AllByRecursion IsRaw (all_messages s)) where
   replies_short (Did (Put SpinServer piece answer)) n p = p
   replies_short (Did (Take GrpServer room bytes (Got count))) n p =
       let source : Source = source_at s bytes n in
-      short_append n.replayed (proxy_answer (grp_server demo_unit) n.grp.server bytes source).lines p
-      (proxy_short (grp_server demo_unit) n.grp.server bytes source (all_replicate AreRawsOf (length (new_items n.grp.server bytes)) (gap_view s n.turn) (raws_at s raws n.turn)))
+      short_append n.replayed (proxy_answer (proxy_setup demo_setup) n.grp.server bytes source).lines p
+      (proxy_short (proxy_setup demo_setup) n.grp.server bytes source (all_replicate AreRawsOf (length (new_items n.grp.server bytes)) (gap_view s n.turn) (raws_at s raws n.turn)))
   replies_short (Did (Take GrpServer room bytes Quiet)) n p = p
   replies_short (Did (Take GrpServer room bytes End)) n p = p
   replies_short (Did (Take GrpServer room bytes Failed)) n p = p

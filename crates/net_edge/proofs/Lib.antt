@@ -15,8 +15,8 @@ mod Starting
 mod Begun
 mod Growing
 mod Feeding
-mod Honesty
 mod Spoken
+mod Coming
 mod Carried
 mod Fitting
 mod Ending

@@ -1,7 +1,6 @@
 -- What the client hears of its links.
 use Rattle.pitch_text.specs.declared.verb.Session.{Session}
 use Rattle.pitch_text.specs.declared.verb.Session.TheVariants.{Grp, Spin}
-use Rattle.world_model.specs.Verbs.{down_of}
 use Rattle.std.proofs.Common.{◌≡◌, ℕ, ◌∷◌, ◌++◌, ◌||◌, ◌&&◌, not, Bool, true, false, List, [], Option, is_some, map, refl, sym, ap, ◌∙◌, subst}
 use Rattle.std.proofs.lemmas.Bool.{false≢true}
 use Rattle.std.specs.List.{AllByRecursion}
@@ -24,7 +23,7 @@ use Rattle.client_core.specs.declared.client.UnitClient.{UnitClient}
 use Rattle.client_links.specs.Linking.{Lookups, NoLookup, LinkStands, link_tells}
 use Rattle.client_links.specs.Telling.{without_spare}
 use Rattle.spin_path.specs.Paths.{heard_all}
-use Rattle.world_model.specs.State.{Connection, Pipe}
+use Rattle.net_edge.specs.Connection.{Connection}
 use Rattle.client_end.specs.layers.Hearing.{HearsItems}
 use Rattle.client_end.proofs.Told as of_link
 use Rattle.net_edge.specs.Acting.{is_group_open, end_puts, end_took, taken_at}
@@ -32,7 +31,7 @@ use Rattle.net_edge.specs.Due.{Setting, call_room, hold_limit}
 use Rattle.net_edge.specs.layers.Playing.{Plays, ClientHas, LinkHas, LinkSays, LinkTells, HearsLink}
 use Rattle.net_edge.specs.layers.Playing.{closes, told_down}
 use Rattle.net_edge.specs.Scene.{Scene, AtEnd}
-use Rattle.net_edge.specs.layers.Sessions.{end_of, session_setup, with_client_end}
+use Rattle.net_edge.specs.layers.Sessions.{end_of, session_setup, down_of, with_client_end}
 use Rattle.net_edge.specs.Turns.{MayCall}
 use Rattle.net_edge.specs.Breaking.{Breaks}
 use Rattle.net_edge.specs.declared.error.DemoError.TheVariants as errors
@@ -62,9 +61,9 @@ heard_entry client client' entry E before has tracks keeps = record {
 
 -- ---- Calls of `take` at the client's end of a connection that stands
 -- what each makes of a scene
-module _ (s : Setting) (end : AtEnd) (up : Pipe) (events : List (Event Lookups)) (E : List Entry) (now : Scene) where
+module _ (s : Setting) (end : AtEnd) (up : List ℕ) (events : List (Event Lookups)) (E : List Entry) (now : Scene) where
   took_some : (session : Session) (bytes : List ℕ) (count : ℕ) → taken_at s (end_of session) bytes (taken.Got count) (with_client_end session end up events false E now)
-      ≡ with_client_end session (end_took bytes (taken.Got count) end) (record { put = up.put ++ []; taken = up.taken }) (Fed bytes NoLookup ∷ events) (closes session false (Fed bytes NoLookup ∷ events)) (told_down session (closes session false (Fed bytes NoLookup ∷ events)) (heard_all (link_tells (session_setup session) events bytes) E)) now
+      ≡ with_client_end session (end_took bytes (taken.Got count) end) (up ++ []) (Fed bytes NoLookup ∷ events) (closes session false (Fed bytes NoLookup ∷ events)) (told_down session (closes session false (Fed bytes NoLookup ∷ events)) (heard_all (link_tells (session_setup session) events bytes) E)) now
   took_some Grp bytes count = refl
   took_some Spin bytes count = refl
 
@@ -82,7 +81,7 @@ stands true so = sym (so refl)
 stands false so = refl
 
 -- it may come while the turn's group is open
-may_take : (session : Session) (end : AtEnd) (up : Pipe) (events : List (Event Lookups)) (E : List Entry) (now : Scene) (room : ℕ) (bytes : List ℕ) (answer : NetTaken) → room ≡ call_room → is_group_open end.answers ≡ true → (end.ended ≡ true → false ≡ true)
+may_take : (session : Session) (end : AtEnd) (up : List ℕ) (events : List (Event Lookups)) (E : List Entry) (now : Scene) (room : ℕ) (bytes : List ℕ) (answer : NetTaken) → room ≡ call_room → is_group_open end.answers ≡ true → (end.ended ≡ true → false ≡ true)
     → (s : Setting) → MayCall s (Take (end_of session) room bytes answer) (with_client_end session end up events false E now)
 may_take Grp end up events E now room bytes answer roomy opened unended s = (roomy, opened, stands end.ended unended)
 may_take Spin end up events E now room bytes answer roomy opened unended s = (roomy, opened, stands end.ended unended)
@@ -118,12 +117,12 @@ module _ (session : Session) (s : Setting) (base : List Call) (calls calls' : Op
       subst (λ (b : Bool). HearsLink session s base calls' link' client' (taken.Got count ∷ answers) b now) (sym tells.shut_is) (record {
         end = end_took bytes (taken.Got count) h.end;
         events = Fed bytes NoLookup ∷ h.events;
-        up = record { put = h.up.put ++ []; taken = h.up.taken };
+        up = h.up ++ [];
         heard = told_down session cut told;
         answers_are = ap (λ (l : List NetTaken). taken.Got count ∷ l) h.answers_are;
         ended_is = λ e. absurd (false≢true (h.ended_is e));
         put_is = h.put_is;
-        up_is = append-nil h.up.put ∙ h.up_is;
+        up_is = append-nil h.up ∙ h.up_is;
         link_has = tells.link_has;
         has = subst (λ (b : Bool). ClientHas client' (told_down session b told)) tells.shut_is tells.has;
         plays = took_so bytes (taken.Got count) _ h is opened (λ f. f) lists (took_some s h.end h.up h.events h.heard now session bytes count);

@@ -12,7 +12,6 @@ use Rattle.session_ends.specs.Events.{Event}
 use Rattle.spin_server.specs.Serving.{Serving}
 use Rattle.client_links.specs.Linking.{Lookups}
 use Rattle.client_core.specs.declared.client.UnitClient.{UnitClient}
-use Rattle.world_model.specs.State.{Pipe}
 use Rattle.net_edge.specs.Acting.{is_group_open}
 use Rattle.net_edge.specs.Due.{Setting}
 use Rattle.pitch_model.specs.History.{Entry}
@@ -145,8 +144,8 @@ module _ (s : Setting) (base : List Call) where
   with_link Grp link client cut e = record e { gap_link = link; client = client; grp_cut = cut }
   with_link Spin link client cut e = record e { spin_link = link; client = client; spin_cut = cut }
 
-  link_begins : (session : Session) (calls : Option (List Call)) (link : Ending) (client : UnitClient) (cut cut' : Bool) (end : AtEnd) (up : Pipe) (events : List (Event Lookups)) (now : Scene)
-      → LinkAt (session_setup session) link cut end cut' events up.put → ClientHas client now.heard → end.answers ≡ [] → end.put ≡ (at_end (end_of session) now).put → up.put ≡ said_at (end_of session) now
+  link_begins : (session : Session) (calls : Option (List Call)) (link : Ending) (client : UnitClient) (cut cut' : Bool) (end : AtEnd) (up : List ℕ) (events : List (Event Lookups)) (now : Scene)
+      → LinkAt (session_setup session) link cut end cut' events up → ClientHas client now.heard → end.answers ≡ [] → end.put ≡ (at_end (end_of session) now).put → up ≡ said_at (end_of session) now
       → Plays s base calls (with_client_end session end up events cut' now.heard now) → HearsLink session s base calls link client [] cut now
   link_begins session calls link client cut cut' end up events now has heard none put_is up_is plays = record {
     end = end;
@@ -170,7 +169,7 @@ module _ (s : Setting) (base : List Call) where
   link_heard session calls link client answers cut now h = with_client_end session h.end h.up h.events cut h.heard now
 
   link_ends : (session : Session) (calls : Option (List Call)) (link : Ending) (client : UnitClient) (answers : List NetTaken) (cut : Bool) (now : Scene) → (h : HearsLink session s base calls link client answers cut now)
-      → (at_end (end_of session) now).put ≡ said_at (end_of session) now → LinkAt (session_setup session) link cut h.end cut h.events h.up.put
+      → (at_end (end_of session) now).put ≡ said_at (end_of session) now → LinkAt (session_setup session) link cut h.end cut h.events h.up
   link_ends session calls link client answers cut now h put = record { has = h.link_has; cut_is = refl; ended = h.ended_is; put_is = h.put_is ∙ put ∙ sym h.up_is }
 
   pub hears_ends : (session : Session) (calls : Option (List Call)) (e : Ends) (link : Ending) (client : UnitClient) (answers : List NetTaken) (cut : Bool) (now : Scene) → EndsHave e now → (h : HearsLink session s base calls link client answers cut now)

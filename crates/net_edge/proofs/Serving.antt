@@ -68,7 +68,7 @@ serves_got s base calls calls' calls'' old new room bytes count answers now h wh
     record {
       end = record { put = h.end.put ++ said.reply; came = h.end.came ++ bytes; answers = taken.Got count ∷ h.end.answers; ended = h.end.ended };
       server = Fed bytes (source_at s bytes at) ∷ h.server;
-      down = record { put = h.down.put ++ said.reply; taken = h.down.taken };
+      down = h.down ++ said.reply;
       spent = said.knows;
       lines = h.lines ++ said.lines;
       answers_are = ap (λ (l : List NetTaken). taken.Got count ∷ l) h.answers_are;

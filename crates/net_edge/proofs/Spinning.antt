@@ -1,5 +1,5 @@
 -- What the Spin Server does with what comes to it.
-use Rattle.std.proofs.Common.{◌≡◌, ℕ, zero, suc, ◌∷◌, ◌++◌, ◌||◌, ◌&&◌, not, ◌⊎◌, inl, inr, take, Bool, true, false, List, [], length, replicate, drop, Option, refl, sym, ap, ◌∙◌, subst, append_assoc, arith}
+use Rattle.std.proofs.Common.{◌≡◌, ℕ, zero, suc, ◌+◌, ◌∷◌, ◌++◌, ◌||◌, ◌&&◌, not, ◌⊎◌, inl, inr, take, Bool, true, false, cond, List, [], length, replicate, Option, None, Some, is_some, is_none, refl, sym, ap, ◌∙◌, subst, append_assoc, arith}
 use Rattle.std.proofs.lemmas.List.{append-nil}
 use Rattle.std.proofs.Math.Bool.{or-false}
 use Rattle.pitch_io.specs.declared.net.LinkEnd.TheVariants.{SpinServer}
@@ -7,27 +7,21 @@ use Rattle.pitch_io.specs.declared.net.NetTaken.{NetTaken}
 use Rattle.pitch_io.specs.declared.net.NetTaken.TheVariants as taken
 use Rattle.pitch_io.specs.Nets.{Call, Take, NetTakeFailed}
 use Rattle.pitch_io.specs.layers.Coming.{ListsCall, came}
-use Rattle.session_ends.specs.Closing.{Setup}
+use Rattle.session_ends.specs.Closing.{Setup, or_else, closed_of}
+use Rattle.session_ends.specs.declared.closed.Closed.{Closed}
 use Rattle.session_ends.specs.Events.{Event, Fed, Pumped}
 use Rattle.session_ends.specs.Sending.{new_items}
 use Rattle.spin_server.specs.Served.{Served}
-use Rattle.spin_server.specs.Serving.{Serving, SpinStands, spin_sends}
-use Rattle.world_model.specs.layers.Carried.{IsServed}
-use Rattle.world_model.specs.Ends.{spin_server, spin_says}
-use Rattle.world_model.specs.State.{Connection}
-use Rattle.world_model.specs.Verbs.{pumped_times, pumps, sent_whole}
-use Rattle.world_model.proofs.Pumping.{Pumping, pumping_begins, pumping_ends}
+use Rattle.spin_server.specs.Serving.{Serving, Spin, SpinStands, spin_sends, running_spin, runs, blocks_left, spin_left, pumped}
+use Rattle.venue_end.specs.Servers.{spin_setup}
+use Rattle.net_edge.specs.Connection.{Connection, pumped_times, pumps, sent_whole}
 use Rattle.net_edge.specs.Acting.{is_group_open, bytes_by, spin_server_fed, spin_answered, end_puts}
-use Rattle.net_edge.specs.Due.{Setting, demo_unit, call_room, spin_view}
+use Rattle.net_edge.specs.Due.{Setting, demo_setup, call_room, spin_view}
 use Rattle.net_edge.specs.layers.Markets.{SpinFed}
 use Rattle.net_edge.specs.layers.Playing.{SpinHas, SpinSays, SpinServes, Plays}
 use Rattle.net_edge.specs.Scene.{Scene, AtEnd, is_got, got_end}
 use Rattle.net_edge.specs.Turns.{MayCall}
 use Rattle.net_edge.proofs.Runs.{play_call}
-
--- a connection of which these bytes are all that the server said
-abbrev pub saying : List ℕ → Connection (List Served) → Connection (List Served)
-saying said c = record { up = c.up; down = record { put = said; taken = 0 }; server = c.server; link = c.link }
 
 -- it is fed over the venue's messages
 pub fed_at : (s : Setting) (turn count : ℕ) (c : Connection (List Served)) (piece : List ℕ) (old new : Serving) (none said : List ℕ) → SpinHas old c.server → none ≡ [] → new.end.setup ≡ old.end.setup
@@ -35,63 +29,74 @@ pub fed_at : (s : Setting) (turn count : ℕ) (c : Connection (List Served)) (pi
     → SpinSays new said c (spin_server_fed s piece (taken.Got count) turn c)
 fed_at s turn count c piece old new none said has no_said setup fed =
     let event : Event (List Served) = Fed piece (replicate (length (new_items c.server piece)) (spin_view s turn)) in
-    let said_is : said ≡ spin_sends (spin_server demo_unit) event c.server = fed.replied ∙ ap (λ (b : List ℕ). b ++ spin_sends old.end.setup event c.server) no_said ∙ ap (λ (m : Setup). spin_sends m event c.server) has.made in
+    let said_is : said ≡ spin_sends (spin_setup demo_setup) event c.server = fed.replied ∙ ap (λ (b : List ℕ). b ++ spin_sends old.end.setup event c.server) no_said ∙ ap (λ (m : Setup). spin_sends m event c.server) has.made in
     record {
       has = record { made = setup ∙ has.made; stands = fed.stands };
-      says = ap (λ (b : List ℕ). c.down.put ++ b) (sym said_is);
+      says = ap (λ (b : List ℕ). c.down ++ b) (sym said_is);
       up_is = refl;
       link_is = refl;
     }
 
 -- ---- It is asked for the rest of its image
--- what is said behind other bytes is the same
-pumped_server : (n : ℕ) (said : List ℕ) (c : Connection (List Served)) → (pumped_times demo_unit n (saying said c)).server ≡ (pumped_times demo_unit n c).server
-pumped_server zero said c = refl
-pumped_server (suc n) said c = ap (λ (es : List (Event (List Served))). Pumped ∷ es) (pumped_server n said c)
-
-pumped_put : (n : ℕ) (before said : List ℕ) (c : Connection (List Served)) → c.down.put ≡ before ++ said → (pumped_times demo_unit n c).down.put ≡ before ++ (pumped_times demo_unit n (saying said c)).down.put
-pumped_put zero before said c is = is
-pumped_put (suc n) before said c is =
-    let one : Connection (List Served) = pumped_times demo_unit n c in
-    let two : Connection (List Served) = pumped_times demo_unit n (saying said c) in
-    ap (λ (b : List ℕ). b ++ spin_says demo_unit Pumped one.server) (pumped_put n before said c is)
-    ∙ append_assoc before two.down.put (spin_says demo_unit Pumped one.server)
-    ∙ ap (λ (es : List (Event (List Served))). before ++ (two.down.put ++ spin_says demo_unit Pumped es)) (sym (pumped_server n said c))
-
-pumped_from : (n : ℕ) (said : List ℕ) (c : Connection (List Served)) → (pumped_times demo_unit n (saying said c)).down.taken ≡ 0
-pumped_from zero said c = refl
-pumped_from (suc n) said c = pumped_from n said c
-
-pumped_up : (n : ℕ) (c : Connection (List Served)) → (pumped_times demo_unit n c).up ≡ c.up
-pumped_up zero c = refl
-pumped_up (suc n) c = pumped_up n c
-
-pub pumped_link : (n : ℕ) (c : Connection (List Served)) → (pumped_times demo_unit n c).link ≡ c.link
+pub pumped_link : (n : ℕ) (c : Connection (List Served)) → (pumped_times n c).link ≡ c.link
 pumped_link zero c = refl
 pumped_link (suc n) c = pumped_link n c
 
-pub begins : (server : Serving) (said : List ℕ) (before c : Connection (List Served)) → SpinSays server said before c → Pumping demo_unit (saying said c) server said true
-begins server said before c is = pumping_begins demo_unit (saying said c) server said (record { made = is.has.made; stands = is.has.stands; down = record { within = omega arith; are = refl } })
+-- some calls were made, and if one more is to be made, so many in all
+pub record Pumping (before c : Connection (List Served)) (server : Serving) (said : List ℕ) (more : Bool) : Type 0 where
+  pub calls : ℕ
+  pub says : SpinSays server said before (pumped_times calls c)
+  pub rest : calls + cond more (pumps (pumped_times calls c).server) 0 ≡ pumps c.server
 
-pub says_all : (old new : Serving) (said said' : List ℕ) (before c : Connection (List Served)) → SpinSays old said before c → Pumping demo_unit (saying said c) new said' false → SpinSays new said' before (sent_whole demo_unit c)
-says_all old new said said' before c is p =
-    let n : ℕ = pumps demo_unit c.server in
-    let end : IsServed new said' demo_unit (pumped_times demo_unit n (saying said c)) = pumping_ends demo_unit (saying said c) new said' p in
-    let all : said' ≡ (pumped_times demo_unit n (saying said c)).down.put =
-    end.down.are ∙ ap (λ (k : ℕ). drop_from k (pumped_times demo_unit n (saying said c)).down.put) (pumped_from n said c) in
-    record {
-      has = record { made = end.made; stands = subst (SpinStands new) (pumped_server n said c) end.stands };
-      says = pumped_put n before.down.put said c is.says ∙ ap (λ (b : List ℕ). before.down.put ++ b) (sym all);
-      up_is = pumped_up n c ∙ is.up_is;
-      link_is = pumped_link n c ∙ is.link_is;
-    }
+one_less : (closed : Option Closed) (spin : Option Spin)
+    → cond (is_none closed && is_some spin) (blocks_left spin + 1) 1
+    ≡ 1 + cond (is_none (or_else closed None) && is_some (pumped spin)) (cond (is_none (or_else closed None) && is_some (pumped spin)) (blocks_left (pumped spin) + 1) 1) 0
+one_less (Some closed) spin = omega arith
+one_less None None = omega arith
+one_less None (Some spin) = by spin.left
   where
-    drop_from : ℕ → List ℕ → List ℕ
-    drop_from k xs = drop k xs
+    by : (left : List (List ℕ)) → length left + 1
+        ≡ 1 + cond (is_some (spin_left spin.sequence left)) (cond (is_some (spin_left spin.sequence left)) (blocks_left (spin_left spin.sequence left) + 1) 1) 0
+    by [] = omega arith
+    by (datagram ∷ datagrams) = omega arith
+
+one_call : (es : List (Event (List Served))) → pumps es ≡ 1 + cond (runs (spin_setup demo_setup) (Pumped ∷ es)) (pumps (Pumped ∷ es)) 0
+one_call es = one_less (closed_of (spin_setup demo_setup) es) (running_spin (spin_setup demo_setup) es)
+
+pub pumping_on : (before c : Connection (List Served)) (server server' : Serving) (said said' : List ℕ) (more : Bool) → Pumping before c server said true
+    → server'.end.setup ≡ server.end.setup
+    → ((es : List (Event (List Served))) → SpinStands server es → SpinStands server' (Pumped ∷ es))
+    → ((es : List (Event (List Served))) → SpinStands server es → said' ≡ said ++ spin_sends server.end.setup Pumped es)
+    → ((es : List (Event (List Served))) → SpinStands server es → more ≡ runs server.end.setup (Pumped ∷ es))
+    → Pumping before c server' said' more
+pumping_on before c server server' said said' more p still stands sends goes =
+    let here : SpinSays server said before (pumped_times p.calls c) = p.says in
+    let es : List (Event (List Served)) = (pumped_times p.calls c).server in
+    let sent : List ℕ = spin_sends (spin_setup demo_setup) Pumped es in
+    let said_is : said' ≡ said ++ sent = sends es here.has.stands ∙ ap (λ (s : Setup). said ++ spin_sends s Pumped es) here.has.made in
+    let more_is : more ≡ runs (spin_setup demo_setup) (Pumped ∷ es) = goes es here.has.stands ∙ ap (λ (s : Setup). runs s (Pumped ∷ es)) here.has.made in
+    let one : pumps es ≡ 1 + cond more (pumps (Pumped ∷ es)) 0 = one_call es ∙ ap (λ (b : Bool). 1 + cond b (pumps (Pumped ∷ es)) 0) (sym more_is) in
+    let all : p.calls + pumps es ≡ pumps c.server = p.rest in
+    record {
+      calls = suc p.calls;
+      says = record {
+        has = record { made = still ∙ here.has.made; stands = stands es here.has.stands };
+        says = ap (λ (b : List ℕ). b ++ sent) here.says ∙ append_assoc before.down said sent ∙ ap (λ (b : List ℕ). before.down ++ b) (sym said_is);
+        up_is = here.up_is;
+        link_is = here.link_is;
+      };
+      rest = omega (arith, one, all);
+    }
+
+pub pumping_ends : (before c : Connection (List Served)) (server : Serving) (said : List ℕ) → Pumping before c server said false → SpinSays server said before (sent_whole c)
+pumping_ends before c server said p =
+    let all : p.calls + 0 ≡ pumps c.server = p.rest in
+    let calls : p.calls ≡ pumps c.server = omega (arith, all) in
+    subst (λ (n : ℕ). SpinSays server said before (pumped_times n c)) calls p.says
 
 -- where nothing was said yet, all stands as it did
 pub says_nothing : (spin : Serving) (said : List ℕ) (c : Connection (List Served)) → said ≡ [] → SpinHas spin c.server → SpinSays spin said c c
-says_nothing spin said c none has = record { has = has; says = sym (append-nil c.down.put) ∙ ap (λ (b : List ℕ). c.down.put ++ b) (sym none); up_is = refl; link_is = refl }
+says_nothing spin said c none has = record { has = has; says = sym (append-nil c.down) ∙ ap (λ (b : List ℕ). c.down ++ b) (sym none); up_is = refl; link_is = refl }
 
 -- ---- A call of `take`
 -- where the server stands by what it took so far
@@ -136,13 +141,13 @@ answered_more s turn count c spin said into answer last got more says =
     (subst (λ (b : Bool). SpinSays spin said c (spin_answered s (take count into) (taken.Got count) turn (not b) c)) (sym more) says)
 
 pub answered_last : (s : Setting) (turn count : ℕ) (c : Connection (List Served)) (spin : Serving) (said into : List ℕ) (answer : NetTaken) (last : Bool) → answer ≡ taken.Got count → last ≡ true
-    → SpinSays spin said c (sent_whole demo_unit (spin_server_fed s (take count into) (taken.Got count) turn c)) → SpinSays spin said c (spin_answered s (came answer into) answer turn (is_got answer && not last) c)
+    → SpinSays spin said c (sent_whole (spin_server_fed s (take count into) (taken.Got count) turn c)) → SpinSays spin said c (spin_answered s (came answer into) answer turn (is_got answer && not last) c)
 answered_last s turn count c spin said into answer last got is says =
     subst (λ (a : NetTaken). SpinSays spin said c (spin_answered s (came a into) a turn (is_got a && not last) c)) (sym got)
     (subst (λ (b : Bool). SpinSays spin said c (spin_answered s (take count into) (taken.Got count) turn (not b) c)) (sym is) says)
 
 pub answered_none : (s : Setting) (turn : ℕ) (c : Connection (List Served)) (spin : Serving) (said into : List ℕ) (answer : NetTaken) (last : Bool) → (answer ≡ taken.Quiet) ⊎ ((answer ≡ taken.End) ⊎ (answer ≡ taken.Failed))
-    → SpinSays spin said c (sent_whole demo_unit c) → SpinSays spin said c (spin_answered s (came answer into) answer turn (is_got answer && not last) c)
+    → SpinSays spin said c (sent_whole c) → SpinSays spin said c (spin_answered s (came answer into) answer turn (is_got answer && not last) c)
 answered_none s turn c spin said into answer last (inl e) says = subst (λ (a : NetTaken). SpinSays spin said c (spin_answered s (came a into) a turn (is_got a && not last) c)) (sym e) says
 answered_none s turn c spin said into answer last (inr (inl e)) says = subst (λ (a : NetTaken). SpinSays spin said c (spin_answered s (came a into) a turn (is_got a && not last) c)) (sym e) says
 answered_none s turn c spin said into answer last (inr (inr e)) says = subst (λ (a : NetTaken). SpinSays spin said c (spin_answered s (came a into) a turn (is_got a && not last) c)) (sym e) says

@@ -1,5 +1,5 @@
--- All that the Spin Server says in a run are moves of a server that sees the venue's messages.
-use Rattle.std.proofs.Common.{ℕ, zero, suc, ◌-◌, ◌≤◌, Bool, true, false, cond, List, [], ◌∷◌, ◌++◌, length, replicate, Option, None, Some, nat_eq, sym, subst, arith}
+-- All that the Spin Server says in a run, a server says that sees the venue's messages.
+use Rattle.std.proofs.Common.{◌≡◌, ℕ, zero, suc, ◌-◌, ◌≤◌, Bool, true, false, cond, List, [], ◌∷◌, ◌++◌, length, replicate, Option, None, Some, nat_eq, refl, sym, ap, subst, arith}
 use Rattle.std.specs.List.{AllByRecursion}
 use Rattle.std.specs.Set.{is_member}
 use Rattle.pitch_fields.proofs.Lists.{all_append, all_drop, all_replicate}
@@ -13,24 +13,20 @@ use Rattle.pitch_model.specs.Asking.{ask_of}
 use Rattle.pitch_model.specs.History.{Raw}
 use Rattle.pitch_model.specs.declared.ask.Ask.{Ask}
 use Rattle.pitch_model.specs.declared.ask.Ask.TheVariants as asks
-use Rattle.session_ends.specs.Events.{Fed, Ticked, Told, Pumped}
+use Rattle.session_ends.specs.Events.{Event, Fed, Ticked, Told, Pumped}
 use Rattle.session_ends.specs.Sending.{new_items}
 use Rattle.spin_server.specs.Served.{Served}
-use Rattle.spin_path.specs.Paths.{IsShown}
+use Rattle.spin_path.specs.Paths.{IsShown, MayServe, all_said, says_at}
 use Rattle.client_end.specs.Links.{spin_link}
-use Rattle.world_model.specs.State.{Connection}
+use Rattle.venue_end.specs.Servers.{spin_setup}
 use Rattle.pitch_text.specs.declared.verb.Session.TheVariants.{Spin}
-use Rattle.world_model.specs.Verbs.{at_server_of, at_link, pumped_times, pumps}
-use Rattle.world_model.specs.Witness.{Witnessed}
-use Rattle.world_model.proofs.SpinWitness as spin
-use Rattle.world_model.proofs.Witness as witness
+use Rattle.net_edge.specs.Connection.{Connection, at_server, at_link, pumped_times, pumps}
 use Rattle.net_edge.specs.Acting.{scene_after, scene_of, is_group_open, spin_server_fed, spin_answered, where_stands, servers_tick, links_tick, image_asked}
 use Rattle.net_edge.specs.Demo.{all_messages}
-use Rattle.net_edge.specs.Due.{Setting, demo_unit, hold_limit, accepted, advertised_until, is_tenth, spin_view}
+use Rattle.net_edge.specs.Due.{Setting, demo_unit, demo_setup, hold_limit, accepted, advertised_until, is_tenth, spin_view}
 use Rattle.net_edge.specs.Scene.{Scene}
 use Rattle.net_edge.specs.Steps.{Step, Did, Beat, Turn}
 use Rattle.net_edge.proofs.Feeding.{later_messages, messages_first, messages_many, all_many}
-use Rattle.net_edge.proofs.Honesty.{no_pipe}
 
 -- ---- What it sees
 abbrev AreWithin : ℕ → List ℕ → Type 0
@@ -64,21 +60,25 @@ shown_at s turn = record {
 }
 
 -- ---- What it says
--- a connection of which the client's end did nothing
-abbrev pub spoken : Connection (List Served) → Connection (List Served)
-spoken c = record { up = no_pipe; down = record { put = c.down.put; taken = 0 }; server = c.server; link = [] }
+-- all this a server says at these events, and one that sees these messages may come to them
+pub record IsSpoken (V : List Raw) (said : List ℕ) (events : List (Event (List Served))) : Type 0 where
+  pub said_is : said ≡ all_said (spin_setup demo_setup) events
+  pub served : AllByRecursion (MayServe V) events
 
 module _ (s : Setting) where
   abbrev V : List Raw
   V = all_messages s
 
   abbrev pub Says : Connection (List Served) → Type 0
-  Says c = Witnessed demo_unit V (Some (spoken c)) []
+  Says c = IsSpoken V c.down c.server
 
-  fed : (c : Connection (List Served)) (bytes : List ℕ) (turn : ℕ) → Says c → Says (at_server_of demo_unit Spin (Fed bytes (replicate (length (new_items c.server bytes)) (spin_view s turn))) c)
+  serves : (c : Connection (List Served)) (event : Event (List Served)) → MayServe V event → Says c → Says (at_server Spin event c)
+  serves c event may w = record { said_is = ap (λ (l : List ℕ). l ++ says_at (spin_setup demo_setup) event c.server) w.said_is; served = (may, w.served) }
+
+  fed : (c : Connection (List Served)) (bytes : List ℕ) (turn : ℕ) → Says c → Says (at_server Spin (Fed bytes (replicate (length (new_items c.server bytes)) (spin_view s turn))) c)
   fed c bytes turn w =
       let views : List Served = replicate (length (new_items c.server bytes)) (spin_view s turn) in
-      spin.serves demo_unit V [] (spoken c) (Fed bytes views) (all_replicate (IsShown V) (length (new_items c.server bytes)) (spin_view s turn) (shown_at s turn)) w
+      serves c (Fed bytes views) (all_replicate (IsShown V) (length (new_items c.server bytes)) (spin_view s turn) (shown_at s turn)) w
 
   fed_by : (c : Connection (List Served)) (bytes : List ℕ) (answer : NetTaken) (turn : ℕ) → Says c → Says (spin_server_fed s bytes answer turn c)
   fed_by c bytes (Got count) turn w = fed c bytes turn w
@@ -86,25 +86,25 @@ module _ (s : Setting) where
   fed_by c bytes End turn w = w
   fed_by c bytes Failed turn w = w
 
-  pumped : (n : ℕ) (c : Connection (List Served)) → Says c → Says (pumped_times demo_unit n c)
+  pumped : (n : ℕ) (c : Connection (List Served)) → Says c → Says (pumped_times n c)
   pumped zero c w = w
-  pumped (suc n) c w = spin.serves demo_unit V [] (spoken (pumped_times demo_unit n c)) Pumped tt (pumped n c w)
+  pumped (suc n) c w = serves (pumped_times n c) Pumped tt (pumped n c w)
 
   answered : (c : Connection (List Served)) (bytes : List ℕ) (answer : NetTaken) (turn : ℕ) (goes_on : Bool) → Says c → Says (spin_answered s bytes answer turn goes_on c)
   answered c bytes answer turn true w = fed_by c bytes answer turn w
   answered c bytes answer turn false w =
       let k : Connection (List Served) = spin_server_fed s bytes answer turn c in
-      pumped (pumps demo_unit k.server) k (fed_by c bytes answer turn w)
+      pumped (pumps k.server) k (fed_by c bytes answer turn w)
 
   -- ---- A tick
   -- at its own end
   ticks : (cut : Bool) (turn : ℕ) (c : Connection (List Served)) → Says c
-      → Says (where_stands cut (λ k. at_server_of demo_unit Spin Ticked k) (where_stands cut (λ k. at_server_of demo_unit Spin (Told (accepted s turn)) k) c))
+      → Says (where_stands cut (λ k. at_server Spin Ticked k) (where_stands cut (λ k. at_server Spin (Told (accepted s turn)) k) c))
   ticks true turn c w = w
   ticks false turn c w =
       let all = all_many s in
-      let told : Connection (List Served) = at_server_of demo_unit Spin (Told (accepted s turn)) c in
-      spin.serves demo_unit V [] (spoken told) Ticked tt (spin.serves demo_unit V [] (spoken c) (Told (accepted s turn)) (omega (arith, all)) w)
+      let told : Connection (List Served) = at_server Spin (Told (accepted s turn)) c in
+      serves told Ticked tt (serves c (Told (accepted s turn)) (omega (arith, all)) w)
 
   -- at the client's
   linked : (cut : Bool) (c : Connection (List Served)) → Says c → Says (where_stands cut (λ k. at_link (spin_link demo_unit) Ticked k) c)
@@ -154,5 +154,5 @@ module _ (s : Setting) where
 
   -- all that it says in a run
   pub says_all : (run : List Step) → Says (scene_of s run).spin
-  says_all [] = spin.opens demo_unit V [] [] (witness.accepted_more demo_unit [] V None [] (witness.none_heard demo_unit (omega arith)))
+  says_all [] = record { said_is = refl; served = tt }
   says_all (step ∷ before) = says_more step (scene_of s before) (says_all before)

@@ -13,9 +13,8 @@ use Rattle.spin_server.specs.Served.{Served}
 use Rattle.spin_server.specs.Serving.{Serving}
 use Rattle.client_core.specs.declared.client.UnitClient.{UnitClient}
 use Rattle.client_end.specs.Links.{gap_link, spin_link}
-use Rattle.world_model.specs.State.{Connection, Pipe}
 use Rattle.pitch_text.specs.declared.verb.Session.TheVariants.{Grp, Spin}
-use Rattle.world_model.specs.Verbs.{at_server_of, at_link}
+use Rattle.net_edge.specs.Connection.{Connection, at_server, at_link}
 use Rattle.net_edge.specs.Acting.{where_stands, end_puts, all_tick, gap_asked, image_asked}
 use Rattle.net_edge.specs.Due.{Setting, demo_unit, hold_limit, accepted}
 use Rattle.net_edge.specs.layers.Playing.{EndsHave, DemoAt, Plays, ProxyHas, ProxySays, ProxyActs}
@@ -28,13 +27,13 @@ use Rattle.net_edge.specs.declared.ends.Ends.{Ends}
 module _ (s : Setting) (now : Scene) where
   -- the connections after each part of a tick
   abbrev pub told : Connection (List Served)
-  told = where_stands now.spin_cut (λ k. at_server_of demo_unit Spin (Told (accepted s now.turn)) k) now.spin
+  told = where_stands now.spin_cut (λ k. at_server Spin (Told (accepted s now.turn)) k) now.spin
 
   abbrev pub spin_served : Connection (List Served)
-  spin_served = where_stands now.spin_cut (λ k. at_server_of demo_unit Spin Ticked k) told
+  spin_served = where_stands now.spin_cut (λ k. at_server Spin Ticked k) told
 
   abbrev pub grp_served : Connection Source
-  grp_served = where_stands now.grp_cut (λ k. at_server_of demo_unit Grp Ticked k) now.grp
+  grp_served = where_stands now.grp_cut (λ k. at_server Grp Ticked k) now.grp
 
   abbrev pub grp_linked : Connection Source
   grp_linked = where_stands now.grp_cut (λ k. at_link gap_link Ticked k) grp_served
@@ -71,15 +70,14 @@ module _ (s : Setting) (now : Scene) where
       → DemoAt s base calls e' (all_put (all_tick s now))
   all_ticked base calls e e' spin1 gap1 spl1 x1 x2 x3 x4 x5 x6 x7 has a1 a2 a3 a4 a5 a6 a7 client grp_cut spin_cut grp_ended spin_ended plays =
       let after : Scene = all_tick s now in
-      let up : Pipe → List ℕ = λ p. p.put in
-      let on_grp_client : (now.grp_client.put ++ x4) ++ x6 ≡ grp_asked.up.put =
-      ap (λ (b : List ℕ). (b ++ x4) ++ x6) (has.gap_link.put_is ∙ sym (ap up a2.up_is)) ∙ ap (λ (b : List ℕ). b ++ x6) (sym a4.says) ∙ sym a6.says in
-      let on_grp_server : now.grp_server.put ++ x2 ≡ grp_asked.down.put =
-      ap (λ (b : List ℕ). b ++ x2) has.grp_server.put_is ∙ sym a2.says ∙ sym (ap up (a6.down_is ∙ a4.down_is)) in
-      let on_spin_client : (now.spin_client.put ++ x5) ++ x7 ≡ spin_asked.up.put =
-      ap (λ (b : List ℕ). (b ++ x5) ++ x7) (has.spin_link.put_is ∙ sym (ap up (a3.up_is ∙ a1.up_is))) ∙ ap (λ (b : List ℕ). b ++ x7) (sym a5.says) ∙ sym a7.says in
-      let on_spin_server : (now.spin_server.put ++ x1) ++ x3 ≡ spin_asked.down.put =
-      ap (λ (b : List ℕ). (b ++ x1) ++ x3) has.spin_server.put_is ∙ ap (λ (b : List ℕ). b ++ x3) (sym a1.says) ∙ sym a3.says ∙ sym (ap up (a7.down_is ∙ a5.down_is)) in
+      let on_grp_client : (now.grp_client.put ++ x4) ++ x6 ≡ grp_asked.up =
+      ap (λ (b : List ℕ). (b ++ x4) ++ x6) (has.gap_link.put_is ∙ sym a2.up_is) ∙ ap (λ (b : List ℕ). b ++ x6) (sym a4.says) ∙ sym a6.says in
+      let on_grp_server : now.grp_server.put ++ x2 ≡ grp_asked.down =
+      ap (λ (b : List ℕ). b ++ x2) has.grp_server.put_is ∙ sym a2.says ∙ sym (a6.down_is ∙ a4.down_is) in
+      let on_spin_client : (now.spin_client.put ++ x5) ++ x7 ≡ spin_asked.up =
+      ap (λ (b : List ℕ). (b ++ x5) ++ x7) (has.spin_link.put_is ∙ sym (a3.up_is ∙ a1.up_is)) ∙ ap (λ (b : List ℕ). b ++ x7) (sym a5.says) ∙ sym a7.says in
+      let on_spin_server : (now.spin_server.put ++ x1) ++ x3 ≡ spin_asked.down =
+      ap (λ (b : List ℕ). (b ++ x1) ++ x3) has.spin_server.put_is ∙ ap (λ (b : List ℕ). b ++ x3) (sym a1.says) ∙ sym a3.says ∙ sym (a7.down_is ∙ a5.down_is) in
       record {
         has = record {
           proxy = subst (λ (es : List (Event Source)). ProxyHas e'.proxy es (next_second now.spent)) (sym (a6.server_is ∙ a4.server_is)) a2.has;
@@ -113,9 +111,9 @@ module _ (s : Setting) (now : Scene) where
 module _ (s : Setting) (base : List Call) where
   pub tick_is : (c0 c1 c2 c3 c4 c5 c6 c7 : Option (List Call)) (e e' : Ends) (sequence : ℕ) (spin1 : Serving) (gap1 spl1 : Ending) (one two : UnitClient) (grp_cut spin_cut : Bool) (ask : Option Ask) (now : Scene)
       → EndsHave e now → sequence ≡ accepted s now.turn → Plays s base c0 (all_tick s now)
-      → ((k : Connection (List Served)) (n : Scene) → SpinHas e.spin k.server → Plays s base c0 n → SpinActs s base c1 spin1 k (where_stands e.spin_cut (λ x. at_server_of demo_unit Spin (Told sequence) x) k) n)
-      → ((k : Connection Source) (spent : Spent) (n : Scene) → ProxyHas e.proxy k.server spent → Plays s base c1 n → ProxyActs s base c2 e'.proxy k (where_stands e.grp_cut (λ x. at_server_of demo_unit Grp Ticked x) k) (next_second spent) n)
-      → ((k : Connection (List Served)) (n : Scene) → SpinHas spin1 k.server → Plays s base c2 n → SpinActs s base c3 e'.spin k (where_stands e.spin_cut (λ x. at_server_of demo_unit Spin Ticked x) k) n)
+      → ((k : Connection (List Served)) (n : Scene) → SpinHas e.spin k.server → Plays s base c0 n → SpinActs s base c1 spin1 k (where_stands e.spin_cut (λ x. at_server Spin (Told sequence) x) k) n)
+      → ((k : Connection Source) (spent : Spent) (n : Scene) → ProxyHas e.proxy k.server spent → Plays s base c1 n → ProxyActs s base c2 e'.proxy k (where_stands e.grp_cut (λ x. at_server Grp Ticked x) k) (next_second spent) n)
+      → ((k : Connection (List Served)) (n : Scene) → SpinHas spin1 k.server → Plays s base c2 n → SpinActs s base c3 e'.spin k (where_stands e.spin_cut (λ x. at_server Spin Ticked x) k) n)
       → ((k : Connection Source) (E : List Entry) (n : Scene) → LinkHas gap_link e.gap_link k.link → ClientHas e.client E → Plays s base c3 n
       → LinkTicks Grp s base c4 gap1 one k (where_stands e.grp_cut (λ x. at_link gap_link Ticked x) k) E e.grp_cut grp_cut n)
       → ((k : Connection (List Served)) (E : List Entry) (n : Scene) → LinkHas (spin_link demo_unit) e.spin_link k.link → ClientHas one E → Plays s base c4 n
@@ -131,7 +129,7 @@ module _ (s : Setting) (base : List Call) where
       let has : EndsHave e n = subst (EndsHave e) (sym same) has_now in
       let plays : Plays s base c0 (all_tick s n) = subst (λ (x : Scene). Plays s base c0 (all_tick s x)) (sym same) plays_now in
       let a1 = tells n.spin (all_tick s n) has.spin plays in
-      let told_is : SpinSays spin1 a1.said n.spin (told s n) = subst (λ (k : ℕ). SpinSays spin1 a1.said n.spin (where_stands e.spin_cut (λ x. at_server_of demo_unit Spin (Told k) x) n.spin)) number a1.is in
+      let told_is : SpinSays spin1 a1.said n.spin (told s n) = subst (λ (k : ℕ). SpinSays spin1 a1.said n.spin (where_stands e.spin_cut (λ x. at_server Spin (Told k) x) n.spin)) number a1.is in
       let a2 = proxy_ticks n.grp n.spent (end_puts SpinServer a1.said (all_tick s n)) has.proxy a1.plays in
       let a3 = spin_ticks (told s n) (end_puts GrpServer a2.said (end_puts SpinServer a1.said (all_tick s n))) told_is.has a2.plays in
       let link_of : LinkHas gap_link e.gap_link (grp_served s n).link = subst (LinkHas gap_link e.gap_link) (sym a2.is.link_is) has.gap_link.has in

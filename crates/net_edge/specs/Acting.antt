@@ -31,12 +31,11 @@ use Rattle.spin_server.specs.Served.{Served}
 use Rattle.spin_path.specs.Paths.{heard_all}
 use Rattle.client_links.specs.Linking.{NoLookup, link_tells}
 use Rattle.client_end.specs.Links.{gap_link, spin_link}
-use Rattle.world_model.specs.Ends.{grp_server}
-use Rattle.world_model.specs.State.{Connection}
+use Rattle.venue_end.specs.Servers.{proxy_setup}
 use Rattle.pitch_text.specs.declared.verb.Session.TheVariants.{Grp, Spin}
-use Rattle.world_model.specs.Verbs.{at_server_of, at_link, sent_whole}
-use Rattle.net_edge.specs.Due.{Setting, demo_unit, hold_limit, request_limits, accepted, gap_view}
-use Rattle.net_edge.specs.Due.{spin_view}
+use Rattle.net_edge.specs.Connection.{Connection, at_server, at_link, sent_whole}
+use Rattle.net_edge.specs.Due.{Setting, demo_unit, demo_setup, hold_limit, request_limits, accepted}
+use Rattle.net_edge.specs.Due.{gap_view, spin_view}
 use Rattle.net_edge.specs.Scene.{Scene, OnLine, AtEnd, line_in, with_line, at_end, with_end, is_got}
 use Rattle.net_edge.specs.Scene.{got_end, first_scene}
 use Rattle.net_edge.specs.Steps.{Step, Did, Beat, Turn}
@@ -113,9 +112,9 @@ source_at s bytes now = record {
 abbrev pub proxy_fed : Setting → List ℕ → Scene → Scene
 proxy_fed s bytes now =
     let source = source_at s bytes now in
-    let answer = proxy_answer (grp_server demo_unit) now.grp.server bytes source in
+    let answer = proxy_answer (proxy_setup demo_setup) now.grp.server bytes source in
     record now {
-      grp = at_server_of demo_unit Grp (Fed bytes source) now.grp;
+      grp = at_server Grp (Fed bytes source) now.grp;
       replayed = now.replayed ++ answer.lines;
       spent = answer.knows;
     }
@@ -127,7 +126,7 @@ proxy_took s bytes answer now = now
 -- bytes come to the Spin Server
 abbrev pub spin_server_fed : Setting
     → List ℕ → NetTaken → ℕ → Connection (List Served) → Connection (List Served)
-spin_server_fed s bytes (taken.Got count) turn c = at_server_of demo_unit Spin
+spin_server_fed s bytes (taken.Got count) turn c = at_server Spin
     (Fed bytes (replicate (length (new_items c.server bytes)) (spin_view s turn))) c
 spin_server_fed s bytes answer turn c = c
 
@@ -136,7 +135,7 @@ abbrev pub spin_answered : Setting
     → List ℕ → NetTaken → ℕ → Bool → Connection (List Served) → Connection (List Served)
 spin_answered s bytes answer turn goes_on c =
     let fed = spin_server_fed s bytes answer turn c in
-    if goes_on then fed else sent_whole demo_unit fed
+    if goes_on then fed else sent_whole fed
 
 abbrev pub spin_took : Setting → List ℕ → NetTaken → Scene → Scene
 spin_took s bytes answer now = record now {
@@ -204,11 +203,11 @@ abbrev pub servers_tick : Setting → Scene → Scene
 servers_tick s now = record now {
   ticked = now.ticked + 1;
   spent = next_second now.spent;
-  grp = where_stands now.grp_cut (λ c. at_server_of demo_unit Grp Ticked c) now.grp;
+  grp = where_stands now.grp_cut (λ c. at_server Grp Ticked c) now.grp;
   spin =
-      where_stands now.spin_cut (λ c. at_server_of demo_unit Spin Ticked c)
+      where_stands now.spin_cut (λ c. at_server Spin Ticked c)
       (where_stands now.spin_cut
-      (λ c. at_server_of demo_unit Spin (Told (accepted s now.turn)) c) now.spin);
+      (λ c. at_server Spin (Told (accepted s now.turn)) c) now.spin);
 }
 
 -- then the links tick; one that closes is cut

@@ -17,6 +17,9 @@ use Rattle.pitch_text.specs.Defaults.{default_day}
 use Rattle.gap_store.specs.Look.{View}
 use Rattle.grp_session.specs.Budget.{Limits}
 use Rattle.spin_server.specs.Served.{Served}
+use Rattle.venue_end.specs.Servers.{limits_of}
+use Rattle.venue_end.specs.declared.setup.VenueSetup.{VenueSetup}
+use Rattle.world_model.specs.Ends.{the_account}
 
 -- a demo's number, and how many messages its venue accepts
 pub record Setting : Type 0 where
@@ -37,9 +40,20 @@ kept_messages = default_kept
 abbrev pub hold_limit : ℕ
 hold_limit = default_hold
 
+-- how the venue's end is made
+abbrev pub demo_setup : VenueSetup
+demo_setup = record {
+  unit = demo_unit;
+  account = the_account;
+  kept = kept_messages;
+  second = default_second;
+  minute = default_minute;
+  day = default_day;
+}
+
 -- how many requests the proxy accepts in a second, in a minute and in a day
 abbrev pub request_limits : Limits
-request_limits = record { second = default_second; minute = default_minute; day = default_day }
+request_limits = limits_of demo_setup
 
 abbrev pub call_room : ℕ
 call_room = 65535

@@ -14,8 +14,7 @@ use Rattle.grp_session.specs.Serving.{Source}
 use Rattle.spin_server.specs.Served.{Served}
 use Rattle.client_links.specs.Linking.{login_bytes}
 use Rattle.world_model.specs.Ends.{the_account}
-use Rattle.world_model.specs.State.{Connection}
-use Rattle.world_model.specs.Verbs.{connection}
+use Rattle.net_edge.specs.Connection.{Connection, connection}
 
 -- a line: the datagrams that were sent on it and those that came, in their order, and the answers
 -- of this turn's calls of `next`, the newest first
@@ -43,8 +42,7 @@ pub record Scene : Type 0 where
   pub grp_server : AtEnd
   pub spin_client : AtEnd
   pub spin_server : AtEnd
-  -- the two connections: what happened at their ends, and in `put` all that each end has said; and
-  -- whether they were cut
+  -- the two connections, and whether they were cut
   pub grp : Connection Source
   pub spin : Connection (List Served)
   pub grp_cut : Bool
@@ -109,10 +107,10 @@ with_end SpinServer end now = record now { spin_server = end }
 
 -- all that an end has said
 abbrev pub said_at : LinkEnd → Scene → List ℕ
-said_at GrpClient now = now.grp.up.put
-said_at GrpServer now = now.grp.down.put
-said_at SpinClient now = now.spin.up.put
-said_at SpinServer now = now.spin.down.put
+said_at GrpClient now = now.grp.up
+said_at GrpServer now = now.grp.down
+said_at SpinClient now = now.spin.up
+said_at SpinServer now = now.spin.down
 
 -- its connection was cut
 abbrev pub is_cut : LinkEnd → Scene → Bool

@@ -4,10 +4,9 @@ ghost use Rattle.std.specs.Prelude.{◌≡◌, List, [], ◌∷◌, OnOk};
 ghost use Rattle.pitch_text.specs.declared.verb.Session.{Session};
 ghost use Rattle.pitch_text.specs.declared.verb.Session.TheVariants.{Grp, Spin};
 ghost use Rattle.pitch_model.specs.History.{Entry};
-ghost use Rattle.world_model.specs.State.{Connection, LooksIn};
-ghost use Rattle.world_model.specs.Verbs.{down_of};
+ghost use Rattle.net_edge.specs.Connection.{Connection, LooksIn};
 ghost use Rattle.net_edge.specs.layers.Playing.{ClientHas, LinkHas, LinkSays};
-ghost use Rattle.net_edge.specs.layers.Sessions.{end_of, session_setup, asked_of};
+ghost use Rattle.net_edge.specs.layers.Sessions.{end_of, session_setup, down_of, asked_of};
 
 use client_core::UnitClient;
 use client_links::{Link, Peer, ProxyPeer, SpinPeer};

@@ -10,12 +10,11 @@ ghost use Rattle.unit_packets.specs.Packing.{bytes_in};
 ghost use Rattle.session_ends.specs.Events.{Ticked};
 ghost use Rattle.grp_session.specs.Budget.{Spent, next_second};
 ghost use Rattle.grp_session.specs.Serving.{Source};
-ghost use Rattle.world_model.specs.State.{Connection};
 ghost use Rattle.pitch_text.specs.declared.verb.Session.TheVariants.{Grp};
-ghost use Rattle.world_model.specs.Verbs.{at_server_of};
+ghost use Rattle.net_edge.specs.Connection.{Connection, at_server};
 ghost use Rattle.net_edge.specs.Acting.{taken_at, where_stands, is_group_open};
 ghost use Rattle.net_edge.specs.Breaking.{Breaks};
-ghost use Rattle.net_edge.specs.Due.{Setting, demo_unit};
+ghost use Rattle.net_edge.specs.Due.{Setting};
 ghost use Rattle.net_edge.specs.layers.Markets.{StillHas, SideAt};
 ghost use Rattle.net_edge.specs.layers.Playing.{NetCounts, Plays, KeepsRun, BreaksRun};
 ghost use Rattle.net_edge.specs.layers.Playing.{ProxyHas, ProxyFed, ProxyAnswers, ProxyServes};
@@ -83,7 +82,7 @@ impl Proxy {
         ensures { OnOk result ((c : Connection Source) (spent : Spent)
             → ProxyHas self.old c.server spent
             → ProxySays self.new said.new.items c
-            (where_stands cut (λ k. at_server_of demo_unit Grp Ticked k) c) (next_second spent)) }
+            (where_stands cut (λ k. at_server Grp Ticked k) c) (next_second spent)) }
     {
         self.budget.tick();
         if cut {
@@ -105,7 +104,7 @@ pub(crate) fn tick_proxy<N: Net>(
         (spent : Spent) (now : Scene) → ProxyHas proxy.old c.server spent
         → Plays s base (N.calls net.old) now
         → ProxyActs s base (N.calls net.new) proxy.new c
-        (where_stands cut (λ k. at_server_of demo_unit Grp Ticked k) c) (next_second spent) now) }
+        (where_stands cut (λ k. at_server Grp Ticked k) c) (next_second spent) now) }
     ensures runs { OnOk result (KeepsRun (N.calls net.old) (N.calls net.new)) }
     ensures broke { IfErr result (BreaksRun (N.calls net.old) (N.calls net.new)) }
     ensures faults { NetCounts result (N.faults net.old) (N.faults net.new) }

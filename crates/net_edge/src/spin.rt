@@ -8,12 +8,11 @@ ghost use Rattle.pitch_io.specs.declared.net.NetTaken.{NetTaken as TakenSaid};
 ghost use Rattle.pitch_io.specs.declared.net.NetTaken.TheVariants.{Got};
 ghost use Rattle.session_ends.specs.Events.{Ticked, Told};
 ghost use Rattle.spin_server.specs.Served.{Served};
-ghost use Rattle.world_model.specs.State.{Connection};
 ghost use Rattle.pitch_text.specs.declared.verb.Session.TheVariants.{Spin};
-ghost use Rattle.world_model.specs.Verbs.{at_server_of, sent_whole};
+ghost use Rattle.net_edge.specs.Connection.{Connection, at_server, sent_whole};
 ghost use Rattle.net_edge.specs.Acting.{where_stands, is_group_open, spin_server_fed};
 ghost use Rattle.net_edge.specs.Acting.{spin_answered};
-ghost use Rattle.net_edge.specs.Due.{Setting, demo_unit};
+ghost use Rattle.net_edge.specs.Due.{Setting};
 ghost use Rattle.net_edge.specs.layers.Markets.{StillHas, SideAt};
 ghost use Rattle.net_edge.specs.layers.Playing.{NetCounts, Plays, KeepsRun, BreaksRun, SpinHas};
 ghost use Rattle.net_edge.specs.layers.Playing.{SpinSays, SpinActs, SpinServes, AreTaken};
@@ -50,7 +49,7 @@ fn feed<M: VenueSide>(
 fn pump_whole(spin: &mut SpinServer, said: &mut Vec<u8>) -> Result<(), OutOfMemory>
     ensures { OnOk result ((before c : Connection (List Served))
         → SpinSays spin.old said.old.items before c
-        → SpinSays spin.new said.new.items before (sent_whole demo_unit c)) }
+        → SpinSays spin.new said.new.items before (sent_whole c)) }
 {
     let mut more = true;
     while more {
@@ -130,7 +129,7 @@ fn say_told(
     requires { said.old.items ≡ [] }
     ensures { OnOk result ((c : Connection (List Served)) → SpinHas spin.old c.server
         → SpinSays spin.new said.new.items c
-        (where_stands cut (λ k. at_server_of demo_unit Spin (Told sequence) k) c)) }
+        (where_stands cut (λ k. at_server Spin (Told sequence) k) c)) }
 {
     if cut {
         return Ok(());
@@ -144,7 +143,7 @@ fn say_ticked(spin: &mut SpinServer, cut: bool, said: &mut Vec<u8>) -> Result<()
     requires { said.old.items ≡ [] }
     ensures { OnOk result ((c : Connection (List Served)) → SpinHas spin.old c.server
         → SpinSays spin.new said.new.items c
-        (where_stands cut (λ k. at_server_of demo_unit Spin Ticked k) c)) }
+        (where_stands cut (λ k. at_server Spin Ticked k) c)) }
 {
     if cut {
         return Ok(());
@@ -164,7 +163,7 @@ pub(crate) fn tell_spin<N: Net>(
     ensures acts { OnOk result ((s : Setting) (base : List Call) (c : Connection (List Served))
         (now : Scene) → SpinHas spin.old c.server → Plays s base (N.calls net.old) now
         → SpinActs s base (N.calls net.new) spin.new c
-        (where_stands cut (λ k. at_server_of demo_unit Spin (Told sequence) k) c) now) }
+        (where_stands cut (λ k. at_server Spin (Told sequence) k) c) now) }
     ensures runs { OnOk result (KeepsRun (N.calls net.old) (N.calls net.new)) }
     ensures broke { IfErr result (BreaksRun (N.calls net.old) (N.calls net.new)) }
     ensures faults { NetCounts result (N.faults net.old) (N.faults net.new) }
@@ -185,7 +184,7 @@ pub(crate) fn tick_spin<N: Net>(
     ensures acts { OnOk result ((s : Setting) (base : List Call) (c : Connection (List Served))
         (now : Scene) → SpinHas spin.old c.server → Plays s base (N.calls net.old) now
         → SpinActs s base (N.calls net.new) spin.new c
-        (where_stands cut (λ k. at_server_of demo_unit Spin Ticked k) c) now) }
+        (where_stands cut (λ k. at_server Spin Ticked k) c) now) }
     ensures runs { OnOk result (KeepsRun (N.calls net.old) (N.calls net.new)) }
     ensures broke { IfErr result (BreaksRun (N.calls net.old) (N.calls net.new)) }
     ensures faults { NetCounts result (N.faults net.old) (N.faults net.new) }

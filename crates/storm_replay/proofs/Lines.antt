@@ -15,13 +15,13 @@ use Rattle.world_model.specs.Verbs.{client_book}
 use Rattle.world_model.specs.declared.limits.Limits.{Limits}
 
 -- the line of a unit, by its client's status and book
-pub line_of : (unit : ℕ) (limits : Limits) (s : State) (status : Status) (orders sum : ℕ) (book : Book) → status ≡ status_of limits.hold s.heard → book ≡ client_book limits s → orders ≡ len book.orders → sum ≡ shares book
+pub line_of : (unit : ℕ) (limits : Limits) (s : State) (status : Status) (orders sum : ℕ) (book : Book) → status ≡ status_of limits.hold s.client.heard → book ≡ client_book limits s → orders ≡ len book.orders → sum ≡ shares book
     → unit_line unit status orders sum ≡ state_line unit limits s
 unfolding state_line
 line_of unit limits s status orders sum book at is count total =
     ap (λ (x : Status). unit_line unit x orders sum) at
-    ∙ ap (λ (n : ℕ). unit_line unit (status_of limits.hold s.heard) n sum) (count ∙ ap (λ (b : Book). len b.orders) is)
-    ∙ ap (λ (n : ℕ). unit_line unit (status_of limits.hold s.heard) (len (client_book limits s).orders) n) (total ∙ ap (λ (b : Book). shares b) is)
+    ∙ ap (λ (n : ℕ). unit_line unit (status_of limits.hold s.client.heard) n sum) (count ∙ ap (λ (b : Book). len b.orders) is)
+    ∙ ap (λ (n : ℕ). unit_line unit (status_of limits.hold s.client.heard) (len (client_book limits s).orders) n) (total ∙ ap (λ (b : Book). shares b) is)
 
 -- the lines of no units
 pub lines_none : (before : List ScheduleEntry) (old : List ℕ) → old ≡ old ++ ended_lines before 0

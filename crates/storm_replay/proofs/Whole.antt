@@ -1,8 +1,7 @@
 -- Each unit of a storm ends current at the last message of its plan.
-use Rattle.std.proofs.Common.{◌≡◌, ℕ, zero, suc, ◌+◌, ◌-◌, ◌<◌, ◌≤◌, Bool, true, false, cond, List, [], ◌∷◌, ◌++◌, length, take, drop, refl, sym, ap, ◌∙◌, subst, arith, Option, Some, None, is_some, reverse, append_assoc, length-append, ◌==◌, ◌%◌}
-use Rattle.std.specs.List.{AllByRecursion}
+use Rattle.std.proofs.Common.{◌≡◌, ℕ, zero, suc, ◌+◌, ◌-◌, ◌<◌, ◌≤◌, Bool, true, false, cond, List, [], ◌∷◌, ◌++◌, length, take, drop, refl, sym, ap, ◌∙◌, subst, arith, Option, Some, None, reverse, append_assoc, ◌==◌, ◌%◌}
+use Rattle.std.specs.List.{AllByRecursion, flat_map}
 use Rattle.std.specs.FinMap.{len}
-use Rattle.std.specs.Option.{option_map}
 use Rattle.std.proofs.lemmas.List.{append-nil, reverse-append}
 use Rattle.pitch_fields.proofs.Lists.{all_append}
 use Rattle.pitch_io.specs.declared.line.Line.{Line}
@@ -20,104 +19,111 @@ use Rattle.pitch_model.specs.declared.status.Status.{Status}
 use Rattle.pitch_model.specs.declared.status.Status.TheVariants.{Current}
 use Rattle.pitch_model.specs.Asking.{ask_of}
 use Rattle.pitch_model.specs.Book.{Book, book_after}
+use Rattle.pitch_model.specs.History.{SpinDown}
+use Rattle.pitch_model.specs.History as entry
 use Rattle.pitch_model.specs.Levels.{shares}
 use Rattle.pitch_model.specs.Status.{status_of}
+use Rattle.unit_packets.specs.Blocks.{Block}
+use Rattle.unit_packets.specs.Cutting.{blocks_of}
 use Rattle.feed_lines.specs.UnitLine.{unit_line}
 use Rattle.drill_client.specs.DrillText.{drill_line, drill_text}
-use Rattle.grp_session.specs.Serving.{Source}
-use Rattle.spin_server.specs.Served.{Served}
+use Rattle.session_ends.specs.Events.{Event, Ticked}
+use Rattle.client_links.specs.Linking.{Lookups}
+use Rattle.client_end.specs.Came.{EndSetup, EndState, Second, end_step, grp_link_ticks, both_links_tick, ask_sent}
+use Rattle.client_end.specs.Links.{spin_link}
+use Rattle.client_end.specs.Sessions.{happened, link_happened, link_settled}
+use Rattle.sending_end.specs.Waiting.{took}
+use Rattle.sending_end.specs.declared.session.Session.TheVariants.{Proxy}
 use Rattle.venue_core.specs.Commands.{raw_of}
 use Rattle.venue_core.specs.Plan.{plan, plan_command}
 use Rattle.venue_core.specs.Refusals.{refusal}
 use Rattle.venue_core.specs.declared.error.VenueError.{VenueError}
 use Rattle.venue_core.proofs.PlanAccepted.{plan_accepted}
 use Rattle.venue_core.proofs.PlanBooks.{plan_begins, plan_next, plan_length}
-use Rattle.world_model.specs.State.{State, Connection, connection_of, datagrams_on}
-use Rattle.world_model.specs.Ends.{link_of}
-use Rattle.world_model.specs.Verbs.{Done, done, next_state, state_of, commanded_on, connected_on, up_on, down_on, delivered_on, numbered, ended_where, shut, link_ticked, link_ticks, servers_tick, client_ticks, asked, client_book}
+use Rattle.venue_end.specs.Came.{VenueState, commanded_on, venue_step}
+use Rattle.venue_end.specs.declared.setup.VenueSetup.{VenueSetup}
+use Rattle.world_model.specs.Ends.{venue_setup, client_setup, server_put, server_cut, server_waits, stands}
+use Rattle.world_model.specs.State.{State, up_taken, datagrams_on, passed_on}
+use Rattle.world_model.specs.Verbs.{done, next_state, state_of, venue_has, client_has, hears, hears_block, delivered_on, numbered, opened, settled, server_fed, seconds, client_book}
 use Rattle.world_model.specs.declared.limits.Limits.{Limits}
+use Rattle.world_model.specs.declared.outcome.Outcome.TheVariants as outcome
 use Rattle.world_laws.proofs.Finish.{proxy_cut_current, proxy_cut_accepted, book_of_all}
+use Rattle.world_laws.proofs.Joined.{carries, either}
 use Rattle.world_laws.proofs.Reached.{AreSayable, sayable_verbs}
-use Rattle.schedule_replay.specs.Replay.{verbs_of, limits_of, default_limits}
+use Rattle.schedule_replay.specs.Replay.{verbs_of, limits_of}
 use Rattle.storm_replay.specs.Ended.{whole_text}
 use Rattle.storm_replay.specs.layers.Limits.{most_units, most_steps}
 use Rattle.storm_replay.specs.Storm.{start_verbs, step_verbs, end_verbs, arrival, arrives_at_once, arrives_late, tenth_verbs}
 use Rattle.storm_replay.specs.StormText.{storm_line}
 use Rattle.storm_replay.specs.Summary.{state_line, ended_line, ended_lines, storm_lines, storm_text}
 use Rattle.storm_replay.specs.layers.Units.{unit_steps, unit_course}
-use Rattle.storm_replay.proofs.Naming.{verbs_are, limits_are}
+use Rattle.storm_replay.proofs.Naming.{verbs_are}
 use Rattle.storm_replay.proofs.Reading.{step_given}
 
--- ---- Verbs that are neither a command nor a sending
-pub record Stays (s x : State) : Type 0 where
-  pub accepted_is : x.accepted ≡ s.accepted
-  pub alone : s.spin ≡ None → x.spin ≡ None
+-- ---- Verbs that are no command
+-- the messages stay, and where no connection with a Spin Server stood none does
+abbrev Stays : State → State → Type 0
+Stays s x = (x.venue.messages ≡ s.venue.messages) × (s.client.spin ≡ None → x.client.spin ≡ None)
 
-stays_then : (s x y : State) → Stays s x → Stays x y → Stays s y
-stays_then s x y a b = record { accepted_is = b.accepted_is ∙ a.accepted_is; alone = λ e. b.alone (a.alone e) }
+second_alone : (c : EndSetup) (now : EndState) → now.spin ≡ None → (end_step c Second now).spin ≡ None
+second_alone c now none = by (ask_of c.hold ticked.heard)
+  where
+    ticked : EndState
+    ticked = both_links_tick c now
 
-stays_where : (b : Bool) (session : Session) (s : State) → Stays s (ended_where b session s)
-stays_where true Grp s = record { accepted_is = refl; alone = λ e. e }
-stays_where true Spin s = record { accepted_is = refl; alone = λ e. refl }
-stays_where false session s = record { accepted_is = refl; alone = λ e. e }
+    alone : ticked.spin ≡ None
+    alone = ap (λ (o : Option (List (Event Lookups))). (link_settled (spin_link c.unit) SpinDown (link_happened Ticked (record { heard = (grp_link_ticks now).heard; link = o }))).link) none
 
-asked_alone : (unit : ℕ) (a : Option Ask) (g : Option (Connection (List Served))) → g ≡ None → asked unit Spin a g ≡ None
-asked_alone unit None g e = e
-asked_alone unit (Some (asks.Gap first count)) g e = e
-asked_alone unit (Some (asks.Spin n)) g e = ap (option_map _) e
+    by : (a : Option Ask) → (ask_sent c a (record ticked { heard = entry.Ticked a ∷ ticked.heard })).spin ≡ None
+    by None = alone
+    by (Some (asks.Gap first count)) = alone
+    by (Some (asks.Spin sequence)) = ap (happened _) alone
+
+cut_messages : (s : VenueSetup) (session : Session) (now : VenueState) → (venue_step s (server_cut session) now).messages ≡ now.messages
+cut_messages s Grp now = refl
+cut_messages s Spin now = refl
 
 module _ (unit : ℕ) (limits : Limits) (s : State) where
-  abbrev Leaves : Done → Type 0
-  Leaves d = Stays s (record d.state { begun = true })
+  same : Stays s s
+  same = (refl, λ e. e)
 
-  either : (b : Bool) (few more : Done) → Leaves few → Leaves more → Leaves (cond b few more)
-  either true few more k l = k
-  either false few more k l = l
+  hears_stays : (line : Line) (blocks : List Block) (x : State) → Stays s x → Stays s (hears unit limits line blocks x)
+  hears_stays line [] x k = k
+  hears_stays line (block ∷ blocks) x k = hears_stays line blocks (hears_block unit limits line block x) k
+
+  settled_stays : (session : Session) (x : State) → Stays s x → Stays s (settled unit limits session x)
+  settled_stays session x k = by (stands session x.client)
+    where
+      by : (b : Bool) → Stays s (cond b x (venue_has unit limits (server_cut session) x))
+      by true = k
+      by false = (cut_messages (venue_setup unit limits) session x.venue ∙ k.0, k.1)
 
   stays_open : Stays s (next_state unit limits (verbs.Connect Grp) s)
-  stays_open = by s.grp
-    where
-      by : (o : Option (Connection Source)) → Leaves (connected_on unit Grp o s)
-      by None = record { accepted_is = refl; alone = λ e. e }
-      by (Some c) = record { accepted_is = refl; alone = λ e. e }
+  stays_open = either (Stays s) (stands Grp s.client) (done outcome.AlreadyOpen s) (done outcome.Opened (opened unit limits Grp s)) same same
 
   stays_up : Stays s (next_state unit limits (verbs.Up Grp None) s)
-  stays_up = by s.grp
-    where
-      by : (o : Option (Connection Source)) → Leaves (up_on unit limits Grp None o s)
-      by None = record { accepted_is = refl; alone = λ e. e }
-      by (Some c) = either _ _ _ (record { accepted_is = refl; alone = λ e. e }) (record { accepted_is = refl; alone = λ e. e })
+  stays_up = carries (Stays s) (stands Grp s.client) None s.grp_up (λ n. server_fed unit limits Grp (take n s.grp_up) (up_taken Grp n s)) s same (λ n. same)
 
   stays_down : Stays s (next_state unit limits (verbs.Down Grp None) s)
-  stays_down = by s.grp
-    where
-      by : (o : Option (Connection Source)) → Leaves (down_on unit Grp None o s)
-      by None = record { accepted_is = refl; alone = λ e. e }
-      by (Some c) = either _ _ _ (record { accepted_is = refl; alone = λ e. e })
-          (let k = stays_where _ Grp _ in record { accepted_is = k.accepted_is; alone = k.alone })
+  stays_down =
+      let waiting : List ℕ = server_waits Grp s.venue in
+      let fed : ℕ → State = λ n. client_has unit limits (took Proxy (take n waiting)) (venue_has unit limits (server_put Grp n) s) in
+      carries (Stays s) (stands Grp s.client) None waiting (λ n. settled unit limits Grp (fed n)) s same (λ n. settled_stays Grp (fed n) same)
 
   stays_deliver : (line : Line) (number : ℕ) → Stays s (next_state unit limits (verbs.Deliver line number) s)
   stays_deliver line number = by (numbered (datagrams_on s line) number)
     where
-      by : (o : Option (List ℕ)) → Leaves (delivered_on unit limits line number o s)
-      by None = record { accepted_is = refl; alone = λ e. e }
-      by (Some datagram) = record { accepted_is = refl; alone = λ e. e }
+      by : (o : Option (List ℕ)) → Stays s (delivered_on unit limits line number o s).state
+      by None = same
+      by (Some datagram) = hears_stays line (blocks_of datagram) s same
 
   stays_rest : (line : Line) → Stays s (next_state unit limits (verbs.Rest line) s)
-  stays_rest line = record { accepted_is = refl; alone = λ e. e }
+  stays_rest line = hears_stays line (flat_map blocks_of (drop (passed_on s.passed line) (datagrams_on s line))) s same
 
   stays_tick : Stays s (next_state unit limits verbs.Tick s)
   stays_tick =
-      let one : State = link_ticked unit Grp (servers_tick unit s) in
-      let a : Stays s one = record { accepted_is = refl; alone = λ e. ap (option_map _) e } in
-      let b = stays_where (shut (link_of unit Grp) (connection_of Grp one)) Grp one in
-      let two : State = link_ticks unit Grp (servers_tick unit s) in
-      let three : State = link_ticked unit Spin two in
-      let c : Stays two three = record { accepted_is = refl; alone = λ e. ap (option_map _) e } in
-      let d = stays_where (shut (link_of unit Spin) (connection_of Spin three)) Spin three in
-      let four : State = link_ticks unit Spin two in
-      let all = stays_then s three four (stays_then s two three (stays_then s one two a b) c) d in
-      record { accepted_is = all.accepted_is; alone = λ e. asked_alone unit (ask_of limits.hold four.heard) four.spin (all.alone e) }
+      let passed : State = seconds unit limits s in
+      settled_stays Spin (settled unit limits Grp passed) (settled_stays Grp passed (refl, second_alone (client_setup unit limits) s.client))
 
 -- ---- Several verbs, the first of which comes first
 abbrev after : ℕ → Limits → List Verb → State → State
@@ -139,14 +145,11 @@ state_after unit limits (x ∷ xs) before =
 -- ---- A step
 -- after so many steps
 pub record Stepped (number unit k : ℕ) (s : State) : Type 0 where
-  pub accepted_is : s.accepted ≡ plan number unit k
-  pub alone : s.spin ≡ None
+  pub messages_are : s.venue.messages ≡ plan number unit k
+  pub alone : s.client.spin ≡ None
 
 stepped_stays : (number unit k : ℕ) (s x : State) → Stepped number unit k s → Stays s x → Stepped number unit k x
-stepped_stays number unit k s x a b = record {
-  accepted_is = b.accepted_is ∙ a.accepted_is;
-  alone = b.alone a.alone;
-}
+stepped_stays number unit k s x a b = record { messages_are = b.0 ∙ a.messages_are; alone = b.1 a.alone }
 
 one_before : (k : ℕ) → k ≡ suc k - 1
 one_before k = omega arith
@@ -157,20 +160,18 @@ module _ (number unit : ℕ) (limits : Limits) where
       let s0 : State = state_of unit limits [] in
       let s1 = next_state unit limits (verbs.Connect Grp) s0 in
       let s2 = next_state unit limits (verbs.Up Grp None) s1 in
-      let zero_steps : Stepped number unit 0 s0 = record { accepted_is = sym (plan_begins number unit); alone = refl } in
+      let zero_steps : Stepped number unit 0 s0 = record { messages_are = sym (plan_begins number unit); alone = refl } in
       stepped_stays number unit 0 s2 _ (stepped_stays number unit 0 s1 s2 (stepped_stays number unit 0 s0 s1 zero_steps (stays_open unit limits s0)) (stays_up unit limits s1)) (stays_down unit limits s2)
 
   -- a command of the plan makes a message, which is sent
   commanded : (k : ℕ) (s : State) → suc k ≤ 400000 → Stepped number unit k s → Stepped number unit (suc k) (next_state unit limits verbs.Flush (next_state unit limits (verbs.Command (plan_command number unit (suc k))) s))
   commanded k s low a =
       let command : Command = plan_command number unit (suc k) in
-      let raw : List ℕ = raw_of command in
-      let fine : refusal s.accepted command ≡ None = ap (λ (V : List (List ℕ)). refusal V command) a.accepted_is ∙ ap (λ (m : ℕ). refusal (plan number unit m) command) (one_before k) ∙ plan_accepted number unit (suc k) (omega arith) low in
-      let sends : State → State = next_state unit limits verbs.Flush in
-      let with_one : State = record s { begun = true; accepted = s.accepted ++ raw ∷ [] } in
-      let is : next_state unit limits (verbs.Command command) s ≡ with_one = ap (λ (o : Option VenueError). record (commanded_on o command s).state { begun = true }) fine in
-      let more : s.accepted ++ raw ∷ [] ≡ plan number unit (suc k) = ap (λ (V : List (List ℕ)). V ++ raw ∷ []) a.accepted_is ∙ sym (plan_next number unit k (suc k) refl) in
-      subst (λ (x : State). Stepped number unit (suc k) (sends x)) (sym is) (record { accepted_is = more; alone = a.alone })
+      let fine : refusal s.venue.messages command ≡ None = ap (λ (V : List (List ℕ)). refusal V command) a.messages_are ∙ ap (λ (m : ℕ). refusal (plan number unit m) command) (one_before k) ∙ plan_accepted number unit (suc k) (omega arith) low in
+      record {
+        messages_are = ap (λ (o : Option VenueError). (commanded_on o command s.venue).messages) fine ∙ ap (λ (V : List (List ℕ)). V ++ raw_of command ∷ []) a.messages_are ∙ sym (plan_next number unit k (suc k) refl);
+        alone = a.alone;
+      }
 
   arrives : (k : ℕ) (line : Line) (index : ℕ) (b : Bool) (s : State) → Stepped number unit k s → Stepped number unit k (after unit limits (arrival line index b) s)
   arrives k line index true s a = stepped_stays number unit k s _ a (stays_deliver unit limits s line index)
@@ -248,7 +249,7 @@ stepped_told : (number unit k : ℕ) (limits : Limits) → k ≤ 400000 → Step
 stepped_told number unit k limits low =
     let before : State = state_of unit limits (course_before number unit k) in
     let beaten : State = next_state unit limits verbs.Beat before in
-    let beat : Stays before beaten = record { accepted_is = refl; alone = λ e. e } in
+    let beat : Stays before beaten = (refl, λ e. e) in
     stepped_stays number unit k beaten _ (stepped_stays number unit k before beaten (stepped_before number unit k limits low) beat) (stays_deliver unit limits beaten lines.A (k + 1))
 
 -- the line of a unit that did its course
@@ -258,9 +259,9 @@ unit_whole number unit steps limits small few =
     let told : List Verb = course_told number unit steps in
     let a = stepped_told number unit steps limits (omega (arith, few)) in
     let x : State = state_of unit limits (reverse (end_verbs steps) ++ course_before number unit steps) in
-    let accepted : x.accepted ≡ plan number unit steps = proxy_cut_accepted unit limits told ∙ a.accepted_is in
-    let many : length (state_of unit limits told).accepted ≡ length (plan number unit steps) = ap (λ (V : List (List ℕ)). length V) a.accepted_is in
-    let status : status_of limits.hold x.heard ≡ Current (length (plan number unit steps)) = proxy_cut_current unit limits told small (told_sayable number unit steps few) a.alone ∙ ap Current many in
+    let accepted : x.venue.messages ≡ plan number unit steps = proxy_cut_accepted unit limits told ∙ a.messages_are in
+    let many : length (state_of unit limits told).venue.messages ≡ length (plan number unit steps) = ap (λ (V : List (List ℕ)). length V) a.messages_are in
+    let status : status_of limits.hold x.client.heard ≡ Current (length (plan number unit steps)) = proxy_cut_current unit limits told small (told_sayable number unit steps few) a.alone ∙ ap Current many in
     let book : client_book limits x ≡ book_after (plan number unit steps) = book_of_all limits x (plan number unit steps) accepted status in
     ap (λ (l : List Verb). state_line unit limits (state_of unit limits l)) (course_is number unit steps)
     ∙ ap (λ (o : Status). unit_line unit o (len (client_book limits x).orders) (shares (client_book limits x))) (status ∙ ap Current (plan_length number unit steps))

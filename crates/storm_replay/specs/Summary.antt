@@ -24,7 +24,7 @@ storm_lines number units steps =
 -- its book
 unfoldable pub state_line : ℕ → Limits → State → List ℕ
 state_line unit limits s =
-    unit_line unit (status_of limits.hold s.heard)
+    unit_line unit (status_of limits.hold s.client.heard)
     (len (client_book limits s).orders) (shares (client_book limits s))
 
 -- the line of a unit after some lines of a schedule: what it says is so in the unit's world

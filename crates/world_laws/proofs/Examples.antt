@@ -57,10 +57,10 @@ abbrev odd : List Verb
 odd = verbs.Deliver A 5 ∷ verbs.Deliver A 3 ∷ verbs.Deliver A 1 ∷ sent 5
 
 -- two runs of one message each: two rounds
-one_by_one : map (λ n. status_of 4 (state_after 7 limits odd n).heard) (0 ∷ 1 ∷ 2 ∷ []) ≡ Behind 1 5 ∷ Behind 3 5 ∷ Current 5 ∷ []
+one_by_one : map (λ n. status_of 4 (state_after 7 limits odd n).client.heard) (0 ∷ 1 ∷ 2 ∷ []) ≡ Behind 1 5 ∷ Behind 3 5 ∷ Current 5 ∷ []
 unfolding reads written block_bytes blocks_of blocks_by judge messages_end fits_datagram packed_on raws_of reach_of held_count rest_of rest_by session_reads session_written stream_items login_status status_here
 one_by_one = refl
 
-two_needed : rounds_needed 4 (state_after 7 limits odd 0).heard ≡ 2
+two_needed : rounds_needed 4 (state_after 7 limits odd 0).client.heard ≡ 2
 unfolding reads written block_bytes blocks_of blocks_by judge messages_end fits_datagram packed_on raws_of reach_of held_count rest_of rest_by session_reads session_written stream_items login_status status_here
 two_needed = refl

@@ -7,7 +7,6 @@ use Rattle.std.proofs.lemmas.List.Folds.{list_any-append}
 use Rattle.std.proofs.lemmas.List.{take_all}
 use Rattle.std.proofs.lemmas.Option.{none-some, same_Some, slice_get_past, slice_get_within}
 use Rattle.pitch_fields.proofs.Lists.{all_drop, all_split, all_get}
-use Rattle.pitch_text.specs.declared.verb.Session.{Session}
 use Rattle.pitch_text.specs.declared.verb.Session.TheVariants.{Grp, Spin}
 use Rattle.pitch_text.specs.declared.verb.Verb.{Verb}
 use Rattle.pitch_text.specs.declared.verb.Verb.TheVariants as verbs
@@ -21,16 +20,14 @@ use Rattle.pitch_model.specs.Honest.{Honest}
 use Rattle.pitch_model.specs.Image.{image}
 use Rattle.pitch_model.specs.Status.{top_of, status_at, status_of}
 use Rattle.spin_path.specs.PathLaws.{IsFeed}
-use Rattle.spin_server.specs.Served.{Served}
-use Rattle.grp_session.specs.Serving.{Source}
 use Rattle.world_laws.specs.Recovery.{recovery}
-use Rattle.world_model.specs.State.{State, Connection}
-use Rattle.world_model.specs.Verbs.{Done, done, next_state, state_of, connected_on, cut_on, ended, ended_where, up_on, down_on, link_ticked, link_ticks, servers_tick, shut, client_book}
-use Rattle.world_model.specs.Ends.{link_of}
-use Rattle.world_model.specs.State.{connection_of}
+use Rattle.world_model.specs.State.{State}
+use Rattle.world_model.specs.Verbs.{next_state, state_of, client_book}
 use Rattle.world_model.specs.declared.limits.Limits.{Limits}
+use Rattle.world_laws.proofs.EachVerb.{messages_stay}
+use Rattle.world_laws.proofs.Joined.{cut_grp, cut_spin, no_proxy, no_spin_server}
 use Rattle.world_laws.proofs.Quiet.{quiet}
-use Rattle.world_laws.proofs.Reached.{Advertises, AreSayable, reached, reached_feed, reached_whole}
+use Rattle.world_laws.proofs.Reached.{Advertises, AreSayable, advertises_all, reached, reached_feed, reached_whole}
 use Rattle.world_laws.proofs.Recovered.{whole, whole_current}
 use Rattle.world_laws.proofs.RoundVerbs.{at}
 
@@ -88,165 +85,80 @@ module _ (V : List Raw) (A : List ℕ) (tells : Advertises V (with_sequence A (l
   old_within : (m : ℕ) → newest_of (last_ten A) ≡ Some m → m ≤ length V
   old_within m is = all_get (λ m. m ≤ length V) (last_ten A) (length (last_ten A) - 1) m (all_drop (λ m. m ≤ length V) (length A - 10) A all_within) is
 
--- ---- What verbs leave as it was
-pub record Kept (s x : State) : Type 0 where
-  pub accepted_is : x.accepted ≡ s.accepted
-  pub advertised_is : x.advertised ≡ s.advertised
-
-kept_same : (s : State) → Kept s s
-kept_same s = record { accepted_is = refl; advertised_is = refl }
-
-kept_where : (b : Bool) (session : Session) (s : State) → Kept s (ended_where b session s)
-kept_where true Grp s = record { accepted_is = refl; advertised_is = refl }
-kept_where true Spin s = record { accepted_is = refl; advertised_is = refl }
-kept_where false session s = record { accepted_is = refl; advertised_is = refl }
-
-module _ (unit : ℕ) (limits : Limits) (s : State) where
-  kept_open : Kept s (next_state unit limits (verbs.Connect Spin) s)
-  kept_open = by s.spin
-    where
-      by : (o : Option (Connection (List Served))) → Kept s (record (connected_on unit Spin o s).state { begun = true })
-      by None = record { accepted_is = refl; advertised_is = refl }
-      by (Some c) = record { accepted_is = refl; advertised_is = refl }
-
-  kept_up : Kept s (next_state unit limits (verbs.Up Spin None) s)
-  kept_up = by s.spin
-    where
-      inner : (b : Bool) (few more : Done) → Kept s (record few.state { begun = true }) → Kept s (record more.state { begun = true }) → Kept s (record (cond b few more).state { begun = true })
-      inner true few more k l = k
-      inner false few more k l = l
-
-      by : (o : Option (Connection (List Served))) → Kept s (record (up_on unit limits Spin None o s).state { begun = true })
-      by None = record { accepted_is = refl; advertised_is = refl }
-      by (Some c) = inner _ _ _ (record { accepted_is = refl; advertised_is = refl }) (record { accepted_is = refl; advertised_is = refl })
-
-  kept_down : Kept s (next_state unit limits (verbs.Down Spin None) s)
-  kept_down = by s.spin
-    where
-      inner : (b : Bool) (few more : Done) → Kept s (record few.state { begun = true }) → Kept s (record more.state { begun = true }) → Kept s (record (cond b few more).state { begun = true })
-      inner true few more k l = k
-      inner false few more k l = l
-
-      by : (o : Option (Connection (List Served))) → Kept s (record (down_on unit Spin None o s).state { begun = true })
-      by None = record { accepted_is = refl; advertised_is = refl }
-      by (Some c) = inner _ _ _ (record { accepted_is = refl; advertised_is = refl }) (let k = kept_where _ Spin _ in record { accepted_is = k.accepted_is; advertised_is = k.advertised_is })
-
-  kept_tick : Kept s (next_state unit limits verbs.Tick s)
-  kept_tick =
-      let one : State = link_ticked unit Grp (servers_tick unit s) in
-      let k = kept_where (shut (link_of unit Grp) (connection_of Grp one)) Grp one in
-      let two : State = link_ticked unit Spin (link_ticks unit Grp (servers_tick unit s)) in
-      let l = kept_where (shut (link_of unit Spin) (connection_of Spin two)) Spin two in
-      record { accepted_is = l.accepted_is ∙ k.accepted_is; advertised_is = l.advertised_is ∙ k.advertised_is }
-
+-- ---- The round ends current
 -- after the round all is as it was, but for what was advertised
 abbrev pub after_round : ℕ → Limits → State → State
 after_round unit limits s = next_state unit limits (verbs.Down Spin None) (next_state unit limits (verbs.Up Spin None) (next_state unit limits verbs.Tick (next_state unit limits (verbs.Down Spin None) (next_state unit limits verbs.Advertise
     (next_state unit limits (verbs.Up Spin None) (next_state unit limits (verbs.Connect Spin) s))))))
 
-pub record RoundKept (s x : State) : Type 0 where
-  pub accepted_is : x.accepted ≡ s.accepted
-  pub advertised_is : x.advertised ≡ with_sequence s.advertised (length s.accepted)
+-- its verbs, before others
+abbrev round_verbs : List Verb
+round_verbs = verbs.Down Spin None ∷ verbs.Up Spin None ∷ verbs.Tick ∷ verbs.Down Spin None ∷ verbs.Advertise ∷ verbs.Up Spin None ∷ verbs.Connect Spin ∷ []
 
-round_kept : (unit : ℕ) (limits : Limits) (s : State) → RoundKept s (after_round unit limits s)
-round_kept unit limits s =
-    let s1 = next_state unit limits (verbs.Connect Spin) s in
-    let s2 = next_state unit limits (verbs.Up Spin None) s1 in
-    let s3 = next_state unit limits verbs.Advertise s2 in
-    let s4 = next_state unit limits (verbs.Down Spin None) s3 in
-    let s5 = next_state unit limits verbs.Tick s4 in
-    let s6 = next_state unit limits (verbs.Up Spin None) s5 in
-    let k1 = kept_open unit limits s in
-    let k2 = kept_up unit limits s1 in
-    let k4 = kept_down unit limits s3 in
-    let k5 = kept_tick unit limits s4 in
-    let k6 = kept_up unit limits s5 in
-    let k7 = kept_down unit limits s6 in
-    let accepted : s2.accepted ≡ s.accepted = k2.accepted_is ∙ k1.accepted_is in
-    let advertised : s2.advertised ≡ s.advertised = k2.advertised_is ∙ k1.advertised_is in
-    record {
-      accepted_is = k7.accepted_is ∙ k6.accepted_is ∙ k5.accepted_is ∙ k4.accepted_is ∙ accepted;
-      advertised_is = k7.advertised_is ∙ k6.advertised_is ∙ k5.advertised_is ∙ k4.advertised_is ∙ (λ i. with_sequence (advertised i) (length (accepted i)));
-    }
+round_messages : (unit : ℕ) (limits : Limits) (before : List Verb) → (after_round unit limits (state_of unit limits before)).venue.messages ≡ (state_of unit limits before).venue.messages
+round_messages unit limits before = messages_stay unit limits round_verbs before (tt, (tt, (tt, (tt, (tt, (tt, (tt, tt)))))))
 
--- ---- The round ends current
-pub round_current : (unit : ℕ) (limits : Limits) (before : List Verb) → unit < 256 → AreSayable before → (state_of unit limits before).begun ≡ true → (state_of unit limits before).grp ≡ None → (state_of unit limits before).spin ≡ None
-    → status_of limits.hold (after_round unit limits (state_of unit limits before)).heard ≡ Current (length (state_of unit limits before).accepted)
+pub round_current : (unit : ℕ) (limits : Limits) (before : List Verb) → unit < 256 → AreSayable before → (state_of unit limits before).begun ≡ true → (state_of unit limits before).client.grp ≡ None → (state_of unit limits before).client.spin ≡ None
+    → status_of limits.hold (after_round unit limits (state_of unit limits before)).client.heard ≡ Current (length (state_of unit limits before).venue.messages)
 round_current unit limits before small said begun grp spin =
     let s : State = state_of unit limits before in
+    let V : List Raw = s.venue.messages in
+    let A : List ℕ = s.venue.advertised in
     let x : State = after_round unit limits s in
-    let after : List Verb = verbs.Down Spin None ∷ verbs.Up Spin None ∷ verbs.Tick ∷ verbs.Down Spin None ∷ verbs.Advertise ∷ verbs.Up Spin None ∷ verbs.Connect Spin ∷ before in
-    let r = reached unit limits after small (tt, (tt, (tt, (tt, (tt, (tt, (tt, said))))))) in
-    let kept = round_kept unit limits s in
-    let feed : IsFeed x.accepted = reached_feed unit x r in
-    let honest : Honest image x.accepted x.heard = (reached_whole unit x r).honest in
-    let venues : IsFeed s.accepted = subst IsFeed kept.accepted_is feed in
-    let tells : Advertises s.accepted (with_sequence s.advertised (length s.accepted)) = subst (λ (A : List ℕ). Advertises s.accepted A) kept.advertised_is (subst (λ (V : List Raw). Advertises V x.advertised) kept.accepted_is r.advertises) in
+    let after : List Verb = round_verbs ++ before in
+    let honest : Honest image x.venue.messages x.client.heard = (reached_whole unit small limits after (tt, (tt, (tt, (tt, (tt, (tt, (tt, said)))))))).honest in
+    let venues : IsFeed V = reached_feed unit limits before said in
+    let tells : Advertises V (with_sequence A (length V)) = advertises_all V A (reached unit limits before said).advertises in
     let q = quiet unit limits before in
     let off = q.spin spin in
-    let old = old_within s.accepted s.advertised tells in
-    let served = newest_served (with_sequence s.advertised (length s.accepted)) (length s.accepted) (newest_is s.accepted s.advertised tells) in
-    let same : s ≡ at s s.spent s.advertised None s.heard = λ i. record s { begun = begun i; grp = grp i; spin = spin i } in
-    let y : State = whole unit small limits s s.spent s.advertised s.heard venues old served (q.grp grp).down off.idle off.none in
+    let old = old_within V A tells in
+    let served = newest_served (with_sequence A (length V)) (length V) (newest_is V A tells) in
+    let no_grp = no_proxy unit limits before grp in
+    let no_spin = no_spin_server unit limits before spin in
+    let same : s ≡ at s s.venue.spent A None s.client.heard =
+    (λ i. record s { begun = begun i; venue = record s.venue { proxies = no_grp.sessions i; spins = no_spin.sessions i }; client = record s.client { grp = grp i; spin = spin i }; grp_up = no_grp.up i; spin_up = no_spin.up i }) in
+    let y : State = whole unit small limits s s.venue.spent A s.client.heard venues old served (q.grp grp).down off.idle off.none in
     let is : x ≡ y = ap (after_round unit limits) same in
-    ap (λ (z : State). status_of limits.hold z.heard) is
-    ∙ whole_current unit small limits s s.spent s.advertised s.heard venues old served (q.grp grp).down off.idle off.none
-    (subst (λ (z : State). Honest image s.accepted z.heard) is (subst (λ (V : List Raw). Honest image V x.heard) kept.accepted_is honest))
-
--- ---- Before the round
-module _ (unit : ℕ) (limits : Limits) (s : State) where
-  -- a connection is cut
-  pub record CutOff (none : State → Type 0) (x : State) : Type 0 where
-    pub cut : none x
-    pub accepted_is : x.accepted ≡ s.accepted
-
-  pub cut_grp : CutOff (λ x. (x.grp ≡ None) × (x.spin ≡ s.spin)) (next_state unit limits (verbs.Cut Grp) s)
-  cut_grp = by s.grp refl
-    where
-      by : (o : Option (Connection Source)) → s.grp ≡ o → CutOff (λ x. (x.grp ≡ None) × (x.spin ≡ s.spin)) (record (cut_on o (ended Grp s) s).state { begun = true })
-      by None e = record { cut = (e, refl); accepted_is = refl }
-      by (Some c) e = record { cut = (refl, refl); accepted_is = refl }
-
-  pub cut_spin : CutOff (λ x. (x.spin ≡ None) × (x.grp ≡ s.grp)) (next_state unit limits (verbs.Cut Spin) s)
-  cut_spin = by s.spin refl
-    where
-      by : (o : Option (Connection (List Served))) → s.spin ≡ o → CutOff (λ x. (x.spin ≡ None) × (x.grp ≡ s.grp)) (record (cut_on o (ended Spin s) s).state { begun = true })
-      by None e = record { cut = (e, refl); accepted_is = refl }
-      by (Some c) e = record { cut = (refl, refl); accepted_is = refl }
+    ap (λ (z : State). status_of limits.hold z.client.heard) is
+    ∙ whole_current unit small limits s s.venue.spent A s.client.heard venues old served (q.grp grp).down off.idle off.none
+    (subst (λ (z : State). Honest image V z.client.heard) is (subst (λ (W : List Raw). Honest image W x.client.heard) (round_messages unit limits before) honest))
 
 -- ---- Both finishes
 module _ (unit : ℕ) (limits : Limits) (done : List Verb) where
   -- the messages that were accepted before the round
   abbrev pub accepted : List Raw
-  accepted = (state_of unit limits done).accepted
+  accepted = (state_of unit limits done).venue.messages
 
   -- the proxy is cut, where no connection with a Spin Server stands
   abbrev pub proxy_cut : State
   proxy_cut = after_round unit limits (state_of unit limits (verbs.Cut Grp ∷ done))
 
-  pub proxy_cut_accepted : proxy_cut.accepted ≡ accepted
-  proxy_cut_accepted = (round_kept unit limits (state_of unit limits (verbs.Cut Grp ∷ done))).accepted_is ∙ (cut_grp unit limits (state_of unit limits done)).accepted_is
+  grp_cut_messages : (state_of unit limits (verbs.Cut Grp ∷ done)).venue.messages ≡ accepted
+  grp_cut_messages = messages_stay unit limits (verbs.Cut Grp ∷ []) done (tt, tt)
 
-  pub proxy_cut_current : unit < 256 → AreSayable done → (state_of unit limits done).spin ≡ None → status_of limits.hold proxy_cut.heard ≡ Current (length accepted)
+  pub proxy_cut_accepted : proxy_cut.venue.messages ≡ accepted
+  proxy_cut_accepted = round_messages unit limits (verbs.Cut Grp ∷ done) ∙ grp_cut_messages
+
+  pub proxy_cut_current : unit < 256 → AreSayable done → (state_of unit limits done).client.spin ≡ None → status_of limits.hold proxy_cut.client.heard ≡ Current (length accepted)
   proxy_cut_current small said none =
       let cut = cut_grp unit limits (state_of unit limits done) in
-      round_current unit limits (verbs.Cut Grp ∷ done) small (tt, said) refl cut.cut.0 (cut.cut.1 ∙ none) ∙ ap (λ (V : List Raw). Current (length V)) cut.accepted_is
+      round_current unit limits (verbs.Cut Grp ∷ done) small (tt, said) refl cut.gone (cut.stays ∙ none) ∙ ap (λ (V : List Raw). Current (length V)) grp_cut_messages
 
   -- both are cut
   abbrev recovered : State
   recovered = state_of unit limits (reverse recovery ++ done)
 
-  both_cut : (state_of unit limits (verbs.Cut Spin ∷ verbs.Cut Grp ∷ done)).accepted ≡ accepted
-  both_cut = (cut_spin unit limits (state_of unit limits (verbs.Cut Grp ∷ done))).accepted_is ∙ (cut_grp unit limits (state_of unit limits done)).accepted_is
+  both_cut : (state_of unit limits (verbs.Cut Spin ∷ verbs.Cut Grp ∷ done)).venue.messages ≡ accepted
+  both_cut = messages_stay unit limits (verbs.Cut Spin ∷ verbs.Cut Grp ∷ []) done (tt, (tt, tt))
 
-  recovered_accepted : recovered.accepted ≡ accepted
-  recovered_accepted = (round_kept unit limits (state_of unit limits (verbs.Cut Spin ∷ verbs.Cut Grp ∷ done))).accepted_is ∙ both_cut
+  recovered_accepted : recovered.venue.messages ≡ accepted
+  recovered_accepted = round_messages unit limits (verbs.Cut Spin ∷ verbs.Cut Grp ∷ done) ∙ both_cut
 
-  pub recovery_current : unit < 256 → AreSayable done → status_of limits.hold recovered.heard ≡ Current (length accepted)
+  pub recovery_current : unit < 256 → AreSayable done → status_of limits.hold recovered.client.heard ≡ Current (length accepted)
   recovery_current small said =
       let one = cut_grp unit limits (state_of unit limits done) in
       let two = cut_spin unit limits (state_of unit limits (verbs.Cut Grp ∷ done)) in
-      round_current unit limits (verbs.Cut Spin ∷ verbs.Cut Grp ∷ done) small (tt, (tt, said)) refl (two.cut.1 ∙ one.cut.0) two.cut.0 ∙ ap (λ (V : List Raw). Current (length V)) both_cut
+      round_current unit limits (verbs.Cut Spin ∷ verbs.Cut Grp ∷ done) small (tt, (tt, said)) refl (two.stays ∙ one.gone) two.gone ∙ ap (λ (V : List Raw). Current (length V)) both_cut
 
 -- ---- The book
 current_at : (r n : ℕ) (o : Option ℕ) → status_at r o ≡ Current n → r ≡ n
@@ -262,12 +174,12 @@ pub current_reach : (H n : ℕ) (E : List Entry) → status_of H E ≡ Current n
 current_reach H n E is = current_at (reach H E) n (top_of E) is
 
 -- the book of a client that is current at the last of the messages is that of all
-pub book_of_all : (limits : Limits) (x : State) (V : List Raw) → x.accepted ≡ V → status_of limits.hold x.heard ≡ Current (length V) → client_book limits x ≡ book_after V
+pub book_of_all : (limits : Limits) (x : State) (V : List Raw) → x.venue.messages ≡ V → status_of limits.hold x.client.heard ≡ Current (length V) → client_book limits x ≡ book_after V
 book_of_all limits x V accepted is =
-    ap (λ (n : ℕ). book_after (take n x.accepted)) (current_reach limits.hold (length V) x.heard is)
+    ap (λ (n : ℕ). book_after (take n x.venue.messages)) (current_reach limits.hold (length V) x.client.heard is)
     ∙ ap (λ (W : List Raw). book_after (take (length V) W)) accepted
     ∙ ap book_after (take_all (length V) V (omega arith))
 
-pub recovery_book : (unit : ℕ) (limits : Limits) (done : List Verb) → unit < 256 → AreSayable done → client_book limits (state_of unit limits (reverse recovery ++ done)) ≡ book_after (state_of unit limits done).accepted
+pub recovery_book : (unit : ℕ) (limits : Limits) (done : List Verb) → unit < 256 → AreSayable done → client_book limits (state_of unit limits (reverse recovery ++ done)) ≡ book_after (state_of unit limits done).venue.messages
 recovery_book unit limits done small said =
-    book_of_all limits (state_of unit limits (reverse recovery ++ done)) (state_of unit limits done).accepted (recovered_accepted unit limits done) (recovery_current unit limits done small said)
+    book_of_all limits (state_of unit limits (reverse recovery ++ done)) (state_of unit limits done).venue.messages (recovered_accepted unit limits done) (recovery_current unit limits done small said)

@@ -32,20 +32,19 @@ use Rattle.session_ends.specs.Sending.{message_bytes, heartbeat_bytes, sent_byte
 use Rattle.grp_session.specs.Budget.{Spent, next_second}
 use Rattle.spin_server.specs.Served.{Served, is_served}
 use Rattle.spin_server.specs.Serving.{Spin, spin_sends, spin_fed_answer, available_bytes, after_login, served_answer, refusal_answer}
-use Rattle.client_links.specs.Linking.{Lookups, NoLookup, link_sends}
+use Rattle.client_links.specs.Linking.{Lookups, NoLookup, link_sends, login_bytes}
 use Rattle.spin_path.specs.Paths.{heard_all}
 use Rattle.spin_path.specs.PathLaws.{IsFeed}
 use Rattle.spin_path.proofs.Pictures.{image_raws, image_others, image_adds}
-use Rattle.world_model.specs.Connections.{IsPipe}
 use Rattle.client_end.specs.Links.{spin_link, link_says}
-use Rattle.world_model.specs.Ends.{spin_server, spin_says}
-use Rattle.world_model.specs.State.{State, waiting}
-use Rattle.world_model.specs.Verbs.{put_in, took, connection, at_link, with_up, at_server_of, sent_whole, login_of, next_state}
+use Rattle.venue_end.specs.Servers.{spin_says}
+use Rattle.world_model.specs.Ends.{venue_setup, the_account}
+use Rattle.world_model.specs.State.{State}
+use Rattle.world_model.specs.Verbs.{next_state}
 use Rattle.world_model.specs.declared.limits.Limits.{Limits}
-use Rattle.world_model.proofs.Carrying.{piped_put}
 use Rattle.world_laws.proofs.LinkHears.{Ready, Hears, hears_none, hears_both, hears_login, hears_available, hears_reply, hears_finished, image_hears, Brings}
-use Rattle.world_laws.proofs.ServerRun.{Serves, login_accepted, login_seen, login_answered, login_serves, request_seen, request_answered, request_serves}
-use Rattle.world_laws.proofs.ImageRound.{SpinConnection, Round, piped_all, at_round, pump_round, told_round, beat_or_none, beat_hears, tick_round, none_sent, image_left, image_sent}
+use Rattle.world_laws.proofs.ServerRun.{Serves, spin_server, login_accepted, login_seen, login_answered, login_serves, request_seen, request_answered, request_serves}
+use Rattle.world_laws.proofs.ImageRound.{SpinConnection, Round, at_server, sent_whole, at_round, pump_round, told_round, beat_or_none, beat_hears, tick_round, none_sent, image_left, image_sent}
 use Rattle.world_laws.proofs.RoundVerbs.{at, fed_up, fed_down, both_ticked, up_step, down_step, tick_open, tick_step}
 
 -- ---- What a login and an advertised sequence tell
@@ -80,76 +79,71 @@ login_hears unit n o small few old =
 
 -- ---- The connection, verb by verb
 module _ (unit : ℕ) (small : unit < 256) (limits : Limits) (s : State) (t : Spent) (A : List ℕ) (E : List Entry) where
-  abbrev n : ℕ
-  n = length s.accepted
-
   abbrev V : List Raw
-  V = s.accepted
+  V = s.venue.messages
+
+  abbrev n : ℕ
+  n = length s.venue.messages
 
   abbrev pub newest : Option ℕ
   newest = newest_of (last_ten A)
 
   abbrev view : Served
-  view = record { messages = s.accepted; advertised = last_ten A }
+  view = record { messages = s.venue.messages; advertised = last_ten A }
 
+  abbrev says : Event (List Served) → List (Event (List Served)) → List ℕ
+  says event before = spin_says (venue_setup unit limits) event before
+
+  -- the login waits
   abbrev L : List ℕ
-  L = login_of unit SpinSession
+  L = login_bytes SpinLink unit the_account
 
   abbrev c0 : SpinConnection
-  c0 = connection L
+  c0 = record { up = login_bytes SpinLink unit the_account; down = []; server = []; link = [] }
 
-  -- the login was carried up
+  -- it was carried up
   abbrev fed : SpinConnection
-  fed = at_server_of unit SpinSession (Fed L (login_seen unit small view)) (with_up (took (length (waiting c0.up)) c0.up) c0)
+  fed = at_server unit limits (Fed L (login_seen unit small view)) (record { up = []; down = []; server = []; link = [] })
 
-  login_said : spin_says unit (Fed L (login_seen unit small view)) [] ≡ login_reply unit newest ++ []
+  login_said : says (Fed L (login_seen unit small view)) [] ≡ login_reply unit newest ++ []
   login_said =
       ap (λ (a : Answer (Option Spin)). a.reply) (login_answered unit small view)
       ∙ ap (λ (status : ℕ). (sent_bytes (spin_server unit) (LoginReply status) ++ after_login (spin_server unit) status newest) ++ []) (login_accepted unit)
 
   fed_round : Round unit fed [] (login_reply unit newest ++ []) None
-  fed_round = record {
-    up_is = piped_all L c0.up (record { within = omega arith; are = refl });
-    down_is = subst (λ (b : List ℕ). IsPipe b (put_in (spin_says unit (Fed L (login_seen unit small view)) []) c0.down)) login_said
-        (piped_put [] (spin_says unit (Fed L (login_seen unit small view)) []) c0.down (record { within = omega arith; are = refl }));
-    server = login_serves unit small view;
-    link = ready_none unit;
-  }
+  fed_round = record { up_is = refl; down_is = login_said; server = login_serves unit small view; link = ready_none unit }
 
   abbrev c1 : SpinConnection
-  c1 = at_server_of unit SpinSession Pumped fed
+  c1 = at_server unit limits Pumped fed
 
   abbrev pub c2 : SpinConnection
-  c2 = at_server_of unit SpinSession (Told n) c1
+  c2 = at_server unit limits (Told n) c1
 
   abbrev D : List ℕ
   D = ((login_reply unit newest ++ []) ++ []) ++ message_bytes unit (SpinAvailable n)
 
   c2_round : Round unit c2 [] D None
-  c2_round = told_round unit n c1 [] ((login_reply unit newest ++ []) ++ []) (pump_round unit fed [] (login_reply unit newest ++ []) None fed_round)
+  c2_round = told_round unit limits c1 [] ((login_reply unit newest ++ []) ++ []) n (pump_round unit limits fed [] (login_reply unit newest ++ []) None fed_round)
 
   -- so far the verbs are an open, an up and an advertise
   pub advertised_state : next_state unit limits verbs.Advertise (next_state unit limits (verbs.Up SpinSession None) (next_state unit limits (verbs.Connect SpinSession) (at s t A None E)))
       ≡ at s t (with_sequence A n) (Some c2) E
   advertised_state =
       ap (next_state unit limits verbs.Advertise) (up_step unit limits s t A E c0)
-      ∙ ap (λ (k : SpinConnection). next_state unit limits verbs.Advertise (at s t A (Some k) E)) (none_sent unit fed [] (login_reply unit newest ++ []) fed_round)
+      ∙ ap (λ (k : SpinConnection). next_state unit limits verbs.Advertise (at s t A (Some k) E)) (none_sent unit limits fed [] (login_reply unit newest ++ []) fed_round)
 
-  module _ (venues : IsFeed s.accepted) (old : (m : ℕ) → newest ≡ Some m → m ≤ last_sequence) where
-    w2 : List ℕ
-    w2 = waiting c2.down
-
+  module _ (venues : IsFeed s.venue.messages) (old : (m : ℕ) → newest ≡ Some m → m ≤ last_sequence) where
     abbrev pub E1 : List Entry
     E1 = heard_all (login_items newest n) E
 
-    c2_hears : Hears unit c2.link (waiting c2.down) (login_items newest n)
-    c2_hears = subst (λ (b : List ℕ). Hears unit [] b (login_items newest n)) c2_round.down_is.are (login_hears unit n newest small venues.top old)
+    c2_hears : Hears unit c2.link c2.down (login_items newest n)
+    c2_hears = subst (λ (b : List ℕ). Hears unit [] b (login_items newest n)) (sym c2_round.down_is) (login_hears unit n newest small venues.top old)
 
     abbrev pub c3 : SpinConnection
-    c3 = fed_down unit limits s t (with_sequence A n) E c2 (waiting c2.down)
+    c3 = fed_down unit limits s t (with_sequence A n) E c2 c2.down
 
     c3_round : Round unit c3 [] [] None
-    c3_round = record { up_is = piped_put [] [] c2.up c2_round.up_is; down_is = piped_all D c2.down c2_round.down_is; server = c2_round.server; link = c2_hears.after }
+    c3_round = record { up_is = refl; down_is = refl; server = c2_round.server; link = c2_hears.after }
 
     pub told_state : next_state unit limits (verbs.Down SpinSession None) (at s t (with_sequence A n) (Some c2) E) ≡ at s t (with_sequence A n) (Some c3) E1
     told_state = down_step unit limits s t (with_sequence A n) E c2 (login_items newest n) c2_hears
@@ -159,30 +153,29 @@ module _ (unit : ℕ) (small : unit < 256) (limits : Limits) (s : State) (t : Sp
     A' = with_sequence A n
 
     pub ticked_open : closed_of (spin_link unit) (Ticked ∷ c3.link) ≡ None
-    ticked_open = tick_open unit limits s t A' E1 c3 c3_round.link.open_is refl
-
-    abbrev ticked : SpinConnection
-    ticked = both_ticked unit limits s t A' E1 c3
+    ticked_open = tick_open unit c3.link c3_round.link.open_is refl
 
     abbrev pub c4 : SpinConnection
-    c4 = at_link (spin_link unit) (Asked (SpinRequest n)) ticked
+    c4 = both_ticked unit limits s t A' E1 c3 (Some (asks.Spin n))
 
     pub W : List ℕ
     W = beat_or_none unit (sent_since (spin_sends (spin_server unit)) SpinServer c3.server)
 
+    abbrev R : List ℕ
+    R = message_bytes unit (SpinRequest n)
+
     link_silent : link_says (spin_link unit) Ticked c3.link ≡ []
     link_silent = ap (λ (o : Option Closed). cond (is_some o) [] (cond (sent_since (link_sends (spin_link unit)) SpinLink c3.link) [] (heartbeat_bytes unit))) ticked_open
 
-    link_asks : link_says (spin_link unit) (Asked (SpinRequest n)) ticked.link ≡ message_bytes unit (SpinRequest n)
+    link_asks : link_says (spin_link unit) (Asked (SpinRequest n)) (Ticked ∷ c3.link) ≡ R
     link_asks = ap (λ (o : Option Closed). cond (is_some o) [] (message_bytes unit (SpinRequest n))) ticked_open
 
-    pub c4_round : Round unit c4 (message_bytes unit (SpinRequest n)) W None
+    pub c4_round : Round unit c4 R W None
     unfolding W
     c4_round =
-        let r = tick_round unit c3 [] [] c3_round refl in
-        let up1 : IsPipe [] ticked.up = subst (λ (b : List ℕ). IsPipe b ticked.up) link_silent (piped_put [] (link_says (spin_link unit) Ticked c3.link) c3.up r.up_is) in
+        let r = tick_round unit limits c3 [] [] c3_round refl in
         record {
-          up_is = subst (λ (b : List ℕ). IsPipe b c4.up) link_asks (piped_put [] (link_says (spin_link unit) (Asked (SpinRequest n)) ticked.link) ticked.up up1);
+          up_is = (λ i. link_silent i ++ link_asks i);
           down_is = r.down_is;
           server = r.server;
           link = record { open_is = ap (λ (o : Option Closed). or_else o None) ticked_open; whole = c3_round.link.whole };
@@ -193,16 +186,13 @@ module _ (unit : ℕ) (small : unit < 256) (limits : Limits) (s : State) (t : Sp
 
     -- ---- The image
     abbrev view' : Served
-    view' = record { messages = s.accepted; advertised = last_ten A' }
+    view' = record { messages = s.venue.messages; advertised = last_ten A' }
 
     abbrev orders : ℕ
     orders = adds (image V n)
 
     abbrev datagrams : List (List ℕ)
     datagrams = packed unit 0 (image V n)
-
-    abbrev R : List ℕ
-    R = message_bytes unit (SpinRequest n)
 
     abbrev E2 : List Entry
     E2 = entry.Ticked (Some (asks.Spin n)) ∷ E1
@@ -217,7 +207,7 @@ module _ (unit : ℕ) (small : unit < 256) (limits : Limits) (s : State) (t : Sp
       abbrev answer : Bool → Answer (Option Spin)
       answer b = cond b (served_answer (spin_server unit) view' n None) (refusal_answer (spin_server unit) n 79 None)
 
-      request_said : spin_says unit (Fed R seen) c4.server ≡ sent_bytes (spin_server unit) (SpinReply n orders 65) ++ []
+      request_said : says (Fed R seen) c4.server ≡ sent_bytes (spin_server unit) (SpinReply n orders 65) ++ []
       request_said =
           ap (λ (o : Option Spin). (spin_fed_answer (spin_server unit) c4.server R seen o).reply) at4.spin_is
           ∙ ap (λ (a : Answer (Option Spin)). a.reply) (request_answered unit small view' n venues.top c4.server c4_round.server)
@@ -227,30 +217,30 @@ module _ (unit : ℕ) (small : unit < 256) (limits : Limits) (s : State) (t : Sp
       asked_serves = subst (λ (b : Bool). Serves unit (Fed R seen ∷ c4.server) (answer b).knows) served (request_serves unit small view' n venues.top c4.server c4_round.server)
 
       abbrev taken : SpinConnection
-      taken = with_up (took (length (waiting c4.up)) c4.up) c4
+      taken = record { up = []; down = c4.down; server = c4.server; link = c4.link }
 
       taken_round : Round unit taken [] W None
-      taken_round = record { up_is = piped_all R c4.up c4_round.up_is; down_is = c4_round.down_is; server = c4_round.server; link = c4_round.link }
+      taken_round = record { up_is = refl; down_is = c4_round.down_is; server = c4_round.server; link = c4_round.link }
 
       abbrev c5 : SpinConnection
-      c5 = at_server_of unit SpinSession (Fed R seen) taken
+      c5 = at_server unit limits (Fed R seen) taken
 
       c5_round : Round unit c5 [] (W ++ (message_bytes unit (SpinReply n orders 65) ++ [])) (image_left n datagrams)
-      c5_round = at_round unit taken [] W None (image_left n datagrams) taken_round (Fed R seen) (message_bytes unit (SpinReply n orders 65) ++ []) request_said asked_serves
+      c5_round = at_round unit limits taken [] W None (image_left n datagrams) taken_round (Fed R seen) (message_bytes unit (SpinReply n orders 65) ++ []) request_said asked_serves
 
       abbrev pub c6 : SpinConnection
-      c6 = sent_whole unit c5
+      c6 = sent_whole unit limits c5
 
       abbrev B : List ℕ
       B = (W ++ (message_bytes unit (SpinReply n orders 65) ++ [])) ++ (concat datagrams ++ message_bytes unit (SpinFinished n))
 
       c6_round : Round unit c6 [] B None
-      c6_round = image_sent unit n datagrams c5 [] (W ++ (message_bytes unit (SpinReply n orders 65) ++ [])) c5_round
+      c6_round = image_sent unit limits n datagrams c5 [] (W ++ (message_bytes unit (SpinReply n orders 65) ++ [])) c5_round
 
       pub served_state : next_state unit limits (verbs.Up SpinSession None) (at s (next_second t) A' (Some c4) E2) ≡ at s (next_second t) A' (Some c6) E2
       served_state =
           up_step unit limits s (next_second t) A' E2 c4
-          ∙ ap (λ (w : List ℕ). at s (next_second t) A' (Some (fed_up unit limits s (next_second t) A' E2 c4 w)) E2) (sym c4_round.up_is.are)
+          ∙ ap (λ (w : List ℕ). at s (next_second t) A' (Some (fed_up unit limits s (next_second t) A' E2 c4 w)) E2) c4_round.up_is
 
       -- ---- What the link tells of it
       packing : IsPacking unit 0 (image V n) datagrams
@@ -305,11 +295,11 @@ module _ (unit : ℕ) (small : unit < 256) (limits : Limits) (s : State) (t : Sp
             | inr known ↦ omega (arith, known, rise)
           ]
 
-      pub image_reached : (x : State) → x ≡ next_state unit limits (verbs.Down SpinSession None) (at s (next_second t) A' (Some c6) E2) → n ≤ reach limits.hold x.heard
+      pub image_reached : (x : State) → x ≡ next_state unit limits (verbs.Down SpinSession None) (at s (next_second t) A' (Some c6) E2) → n ≤ reach limits.hold x.client.heard
       image_reached x is =
           let told = image_told c6.link c6_round.link in
           let items : List Item = item.SpinReply n orders 65 ∷ (told.items ++ item.SpinFinished n ∷ []) in
-          let hears : Hears unit c6.link (waiting c6.down) items = subst (λ (b : List ℕ). Hears unit c6.link b items) c6_round.down_is.are told.hears in
-          let heard_is : x.heard ≡ entry.SpinFinished n ∷ heard_all told.items E3 =
-          ap (λ (y : State). y.heard) (is ∙ down_step unit limits s (next_second t) A' E2 c6 items hears) ∙ heard_both told.items (item.SpinFinished n ∷ []) E3 in
+          let hears : Hears unit c6.link c6.down items = subst (λ (b : List ℕ). Hears unit c6.link b items) (sym c6_round.down_is) told.hears in
+          let heard_is : x.client.heard ≡ entry.SpinFinished n ∷ heard_all told.items E3 =
+          ap (λ (y : State). y.client.heard) (is ∙ down_step unit limits s (next_second t) A' E2 c6 items hears) ∙ heard_both told.items (item.SpinFinished n ∷ []) E3 in
           subst (λ (F : List Entry). n ≤ reach limits.hold F) (sym heard_is) (taken_reach limits.hold (heard_all told.items E3) (told.brings E3 n orders [] runs))

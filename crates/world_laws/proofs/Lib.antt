@@ -1,4 +1,6 @@
 pub mod CommandRaws
+pub mod Joined
+pub mod EachVerb
 pub mod Reached
 mod Spending
 pub mod Lasting

@@ -1,10 +1,13 @@
 -- The verbs of a round with the proxy, one after another, where no connection with a Spin Server
 -- stands.
-use Rattle.std.proofs.Common.{◌≡◌, ℕ, ◌++◌, Bool, true, cond, List, ◌∷◌, length, take, drop, refl, ap, ◌∙◌, max, Option, Some, None, is_some}
+use Rattle.std.proofs.Common.{◌≡◌, ℕ, ◌++◌, Bool, true, cond, List, [], ◌∷◌, length, take, drop, refl, ap, ◌∙◌, max, Option, Some, None, is_some}
 use Rattle.std.specs.List.{flat_map}
+use Rattle.pitch_io.specs.declared.line.Line.{Line}
 use Rattle.pitch_io.specs.declared.line.Line.TheVariants.{Gap}
 use Rattle.pitch_text.specs.declared.verb.Session.TheVariants.{Grp, Spin}
 use Rattle.pitch_text.specs.declared.verb.Verb.TheVariants as verbs
+use Rattle.pitch_messages.specs.declared.session.SessionMessage.TheVariants.{GapRequest}
+use Rattle.unit_packets.specs.Blocks.{Block}
 use Rattle.unit_packets.specs.Cutting.{blocks_of}
 use Rattle.heard_items.specs.declared.item.Item.{Item}
 use Rattle.heard_items.specs.Datagrams.{heard_blocks}
@@ -17,96 +20,138 @@ use Rattle.line_arbiter.specs.Noted.{Note}
 use Rattle.session_ends.specs.Answering.{Answer}
 use Rattle.session_ends.specs.declared.closed.Closed.{Closed}
 use Rattle.session_ends.specs.Closing.{closed_of}
-use Rattle.session_ends.specs.Events.{Fed, Ticked}
+use Rattle.session_ends.specs.Events.{Event, Fed, Ticked, Asked}
 use Rattle.grp_session.specs.Budget.{Spent, next_second}
 use Rattle.grp_session.specs.Serving.{Source, proxy_answer}
-use Rattle.client_links.specs.Linking.{NoLookup}
+use Rattle.client_links.specs.Linking.{Lookups, NoLookup, link_tells}
 use Rattle.spin_path.specs.Paths.{heard_all}
-use Rattle.client_end.specs.Links.{gap_link}
-use Rattle.world_model.specs.Ends.{grp_server}
-use Rattle.world_model.specs.State.{State, Connection, waiting}
-use Rattle.world_model.specs.Verbs.{took, at_link, with_up, with_down, at_server_of, source_of, noted_blocks, next_state, asked, done, ended_where, link_fed, link_hears, link_ticks, client_ticks}
+use Rattle.client_end.specs.Came.{EndSetup, EndState, GrpTook, with_grp, asks_proxy, asks_spin_server, ask_sent, both_links_tick, end_step, second_ask, spin_link_ticks}
+use Rattle.client_end.specs.Links.{gap_link, link_says}
+use Rattle.client_end.specs.Sessions.{SessionState, settled_at}
+use Rattle.sending_end.specs.Waiting.{kept_for}
+use Rattle.venue_end.specs.Came.{ProxyPut, proxy_source}
+use Rattle.venue_end.specs.Came as venue
+use Rattle.venue_end.specs.Servers.{proxy_says, proxy_setup}
+use Rattle.world_model.specs.Ends.{client_setup, the_session, venue_setup}
+use Rattle.world_model.specs.State.{State, up_taken}
+use Rattle.world_model.specs.Verbs.{Done, carried, done, hears, hears_block, next_state, server_fed, settled, link_fed, up_to, venue_has}
 use Rattle.world_model.specs.declared.limits.Limits.{Limits}
 use Rattle.world_model.specs.declared.outcome.Outcome.TheVariants as outcome
-use Rattle.world_model.specs.declared.passed.Passed.{Passed}
+use Rattle.world_laws.proofs.Joined.{all_of, carried_all, none_of, one_session}
 use Rattle.world_laws.proofs.LinkPieces.{TellsOf}
-use Rattle.world_laws.proofs.RoundVerbs.{carried_all, all_of}
 
-abbrev pub GapConnection : Type 0
-GapConnection = Connection Source
+-- a state in which no connection stands
+abbrev pub apart : State → State
+apart s = record s {
+  begun = true;
+  venue = record s.venue { proxies = []; spins = [] };
+  client = record { heard = s.client.heard; grp = None; spin = None };
+  grp_up = [];
+  spin_up = [];
+}
 
--- a state in which no connection with a Spin Server stands
-abbrev pub at : State → Spent → List (List ℕ) → Option GapConnection → List Entry → List Note → Passed → State
-at s t lines grp heard notes passed = record s { begun = true; replayed = lines; spent = t; grp = grp; spin = None; heard = heard; notes = notes; passed = passed }
+-- one in which one with the proxy stands alone: what waits to go up and down, and what happened at
+-- its server and at its link
+abbrev pub at : List ℕ → List ℕ → List (Event Source) → List (Event Lookups) → State → State
+at up down server link s = record s {
+  begun = true;
+  venue = record s.venue { proxies = one_session server down; spins = [] };
+  client = record { heard = s.client.heard; grp = Some link; spin = None };
+  grp_up = up;
+  spin_up = [];
+}
 
-module _ (unit : ℕ) (limits : Limits) (s : State) (t : Spent) (lines : List (List ℕ)) (E : List Entry) (N : List Note) (p : Passed) where
-  -- ---- The gap line
-  abbrev rest : List (List ℕ)
-  rest = drop p.gap lines
+-- ---- What becomes of a state
+-- the client has heard this
+abbrev pub with_heard : List Entry → State → State
+with_heard E s = record s { client = record s.client { heard = E } }
 
-  pub rest_step : (grp : Option GapConnection) → next_state unit limits (verbs.Rest Gap) (at s t lines grp E N p)
-      ≡ at s t lines grp (heard_blocks (flat_map blocks_of rest) E) (noted_blocks unit limits.hold Gap (flat_map blocks_of rest) E N) (record p { gap = max (length lines) p.gap })
-  rest_step grp = refl
+-- a second passed, and the client asked
+abbrev pub asked_at : Option Ask → State → State
+asked_at ask s = with_heard (entry.Ticked ask ∷ s.client.heard) (record s { venue = record s.venue { spent = next_second s.venue.spent } })
 
-  module _ (c : GapConnection) where
-    abbrev S : State
-    S = at s t lines (Some c) E N p
+-- the proxy answered
+abbrev pub answered_by : Answer Spent → State → State
+answered_by a s = record s { venue = record s.venue { spent = a.knows }; replayed = s.replayed ++ a.lines }
 
-    -- ---- Carrying all
-    abbrev pub source : List ℕ → Source
-    source w = source_of limits (at s t lines (Some c) E N p) c.server w
+-- the datagrams of the gap line that the client lacked came, and were noted
+abbrev pub rest_came : List Note → State → State
+rest_came notes s = record (with_heard (heard_blocks (flat_map blocks_of (drop s.passed.gap s.replayed)) s.client.heard) s) { notes = notes; passed = record s.passed { gap = max (length s.replayed) s.passed.gap } }
 
-    abbrev pub answer : List ℕ → Answer Spent
-    answer w = proxy_answer (grp_server unit) c.server w (source w)
+-- ---- The lines
+-- blocks are heard and noted, and that is all
+pub hears_are : (unit : ℕ) (limits : Limits) (line : Line) (blocks : List Block) (s : State)
+    → hears unit limits line blocks s ≡ record (with_heard (heard_blocks blocks s.client.heard) s) { notes = (hears unit limits line blocks s).notes }
+hears_are unit limits line [] s = refl
+hears_are unit limits line (block ∷ blocks) s = hears_are unit limits line blocks (hears_block unit limits line block s)
 
-    -- what the connection is once all that waits was carried up
-    abbrev pub fed_up : List ℕ → GapConnection
-    fed_up w = at_server_of unit Grp (Fed w (source w)) (with_up (took (length (waiting c.up)) c.up) c)
+-- the notes once the rest of the gap line came
+abbrev pub rest_notes : ℕ → Limits → State → List Note
+rest_notes unit limits s = (hears unit limits Gap (flat_map blocks_of (drop s.passed.gap s.replayed)) s).notes
 
-    abbrev pub after_up : List ℕ → State
-    after_up w = at s (answer w).knows (lines ++ (answer w).lines) (Some (fed_up w)) E N p
+pub rest_step : (unit : ℕ) (limits : Limits) (s : State) → next_state unit limits (verbs.Rest Gap) s ≡ record (rest_came (rest_notes unit limits s) s) { begun = true }
+rest_step unit limits s = ap (λ (y : State). record (up_to Gap (length s.replayed) y) { begun = true }) (hears_are unit limits Gap (flat_map blocks_of (drop s.passed.gap s.replayed)) s)
 
-    pub up_step : next_state unit limits (verbs.Up Grp None) (at s t lines (Some c) E N p) ≡ after_up (waiting c.up)
-    up_step =
-        let n : ℕ = length (waiting c.up) in
-        ap (λ (b : Bool). record (cond b (done (outcome.TooFew n n) S) (done (outcome.Carried n) (after_up (take n (waiting c.up))))).state { begun = true }) (carried_all (waiting c.up))
-        ∙ ap after_up (all_of (waiting c.up))
+-- ---- A link that stays open
+settled_open : (E : List Entry) (link : List (Event Lookups)) → closed_of gap_link link ≡ None → settled_at gap_link entry.GrpDown E (Some link) ≡ record { heard = E; link = Some link }
+settled_open E link open_is =
+    let cut : SessionState = record { heard = entry.GrpDown ∷ E; link = None } in
+    let still : SessionState = record { heard = E; link = Some link } in
+    ap (λ (o : Option Closed). cond (is_some o) cut still) open_is
 
-    -- and down
-    abbrev pub fed_down : List ℕ → GapConnection
-    fed_down w = at_link gap_link (Fed w NoLookup) (with_down (took (length (waiting c.down)) c.down) c)
+-- all that waits is carried
+carried_whole : (waiting : List ℕ) (after : ℕ → State) (s : State) → carried true None waiting after s ≡ done (outcome.Carried (length waiting)) (after (length waiting))
+carried_whole waiting after s =
+    let few : Done = done (outcome.TooFew (length waiting) (length waiting)) s in
+    ap (λ (b : Bool). cond b few (done (outcome.Carried (length waiting)) (after (length waiting)))) (carried_all waiting)
 
-    down_heard : (items : List Item) → TellsOf gap_link c.link (waiting c.down) items
-        → record (link_fed unit Grp (waiting c.down) (with_down (took (length (waiting c.down)) c.down) c) S) { begun = true } ≡ at s t lines (Some (fed_down (waiting c.down))) (heard_all items E) N p
-    down_heard items h =
-        let after : State = link_hears unit Grp (waiting c.down) (with_down (took (length (waiting c.down)) c.down) c) S in
-        ap (λ (o : Option Closed). record (ended_where (is_some o) Grp after) { begun = true }) h.after.open_is
-        ∙ ap (λ (l : List Item). at s t lines (Some (fed_down (waiting c.down))) (heard_all l E) N p) h.told
+-- ---- The verbs
+module _ (unit : ℕ) (limits : Limits) (server : List (Event Source)) (link : List (Event Lookups)) (s : State) where
+  abbrev setup : EndSetup
+  setup = client_setup unit limits
 
-    pub down_step : (items : List Item) → TellsOf gap_link c.link (waiting c.down) items → next_state unit limits (verbs.Down Grp None) (at s t lines (Some c) E N p) ≡ at s t lines (Some (fed_down (waiting c.down))) (heard_all items E) N p
-    down_step items h =
-        let n : ℕ = length (waiting c.down) in
-        let fed : List ℕ → State = λ w. link_fed unit Grp w (with_down (took n c.down) c) S in
-        ap (λ (b : Bool). record (cond b (done (outcome.TooFew n n) S) (done (outcome.Carried n) (fed (take n (waiting c.down))))).state { begun = true }) (carried_all (waiting c.down))
-        ∙ ap (λ (w : List ℕ). record (fed w) { begun = true }) (all_of (waiting c.down))
-        ∙ down_heard items h
+  -- all is carried up: what the proxy sees, and what it answers
+  abbrev source : List ℕ → Source
+  source w = proxy_source (venue_setup unit limits) s.venue server w
 
-    -- ---- A tick
-    abbrev pub both_ticked : GapConnection
-    both_ticked = at_link gap_link Ticked (at_server_of unit Grp Ticked c)
+  abbrev answer : List ℕ → Answer Spent
+  answer w = proxy_answer (proxy_setup (venue_setup unit limits)) server w (proxy_source (venue_setup unit limits) s.venue server w)
 
-    abbrev after_tick : Option Ask → State
-    after_tick a = at s (next_second t) lines (asked unit Grp a (Some both_ticked)) (entry.Ticked a ∷ E) N p
+  pub up_step : (up down : List ℕ) → next_state unit limits (verbs.Up Grp None) (at up down server link s) ≡ at [] (down ++ (answer up).reply) (Fed up (source up) ∷ server) link (answered_by (answer up) s)
+  up_step up down =
+      ap (λ (d : Done). record d.state { begun = true }) (carried_whole up (λ n. server_fed unit limits Grp (take n up) (up_taken Grp n (at up down server link s))) (at up down server link s))
+      ∙ (λ i. record (server_fed unit limits Grp (all_of up i) (at (none_of up i) down server link s)) { begun = true })
 
-    none_asked : (a : Option Ask) → record (after_tick a) { spin = asked unit Spin a None } ≡ after_tick a
-    none_asked None = refl
-    none_asked (Some (asks.Gap first count)) = refl
-    none_asked (Some (asks.Spin n)) = refl
+  -- all is carried down
+  took : (items : List Item) (bytes : List ℕ) → TellsOf gap_link link bytes items
+      → end_step (client_setup unit limits) (GrpTook bytes) (at [] [] server link s).client ≡ record { heard = heard_all items s.client.heard; grp = Some (Fed bytes NoLookup ∷ link); spin = None }
+  took items bytes h =
+      let after : List Item → EndState = λ l. record { heard = heard_all l s.client.heard; grp = Some (Fed bytes NoLookup ∷ link); spin = None } in
+      ap (λ (session : SessionState). with_grp session (at [] [] server link s).client) (settled_open (heard_all (link_tells gap_link link bytes) s.client.heard) (Fed bytes NoLookup ∷ link) h.after.open_is)
+      ∙ ap after h.told
 
-    pub tick_step : (ask : Option Ask) → closed_of gap_link (Ticked ∷ c.link) ≡ None → ask_of limits.hold E ≡ ask
-        → next_state unit limits verbs.Tick (at s t lines (Some c) E N p) ≡ after_tick ask
-    tick_step ask open_is is =
-        let after : State = at s (next_second t) lines (Some both_ticked) E N p in
-        let end : State → State = λ u. record (client_ticks unit limits (link_ticks unit Spin u)).state { begun = true } in
-        ap (λ (o : Option Closed). end (ended_where (is_some o) Grp after)) open_is
-        ∙ none_asked (ask_of limits.hold E) ∙ ap after_tick is
+  pub down_step : (down : List ℕ) (items : List Item) → TellsOf gap_link link down items → next_state unit limits (verbs.Down Grp None) (at [] down server link s) ≡ at [] [] server (Fed down NoLookup ∷ link) (with_heard (heard_all items s.client.heard) s)
+  down_step down items h =
+      let put : ℕ → State = λ n. venue_has unit limits (ProxyPut the_session n) (at [] down server link s) in
+      let after : EndState → State = λ e. settled unit limits Grp (record (put (length down)) { client = e; grp_up = kept_for e.grp []; spin_up = kept_for e.spin [] }) in
+      ap (λ (d : Done). record d.state { begun = true }) (carried_whole down (λ n. link_fed unit limits Grp (take n down) (put n)) (at [] down server link s))
+      ∙ ap (λ (w : List ℕ). record (link_fed unit limits Grp w (put (length down))) { begun = true }) (all_of down)
+      ∙ ap (λ (e : EndState). record (after e) { begun = true }) (took items down h)
+      ∙ ap (λ (left : List ℕ). at [] left server (Fed down NoLookup ∷ link) (with_heard (heard_all items s.client.heard) s)) (none_of down)
+
+  -- a second passes, and the client asks the proxy
+  pub tick_step : (first count : ℕ) → closed_of gap_link (Ticked ∷ link) ≡ None → ask_of limits.hold s.client.heard ≡ Some (asks.Gap first count)
+      → next_state unit limits verbs.Tick (at [] [] server link s)
+      ≡ at (link_says gap_link Ticked link ++ link_says gap_link (Asked (GapRequest unit first count)) (Ticked ∷ link)) (proxy_says (venue_setup unit limits) Ticked server) (Ticked ∷ server) (Asked (GapRequest unit first count) ∷ Ticked ∷ link)
+      (asked_at (Some (asks.Gap first count)) s)
+  tick_step first count open_is is =
+      let ask_sent_at : EndState → Option Ask → EndState = λ e ask. ask_sent setup ask (record e { heard = entry.Ticked ask ∷ e.heard }) in
+      let after : EndState → Option Ask → State = λ e ask. settled unit limits Spin (settled unit limits Grp (record (venue_has unit limits venue.Second (at [] [] server link s)) {
+        client = ask_sent_at e ask;
+        grp_up = kept_for (ask_sent_at e ask).grp (link_says gap_link Ticked link ++ asks_proxy setup ask e.grp);
+        spin_up = kept_for (ask_sent_at e ask).spin (asks_spin_server setup ask e.spin);
+      })) in
+      let now : EndState = (at [] [] server link s).client in
+      let ticks : both_links_tick setup now ≡ record { heard = s.client.heard; grp = Some (Ticked ∷ link); spin = None } = ap (λ (session : SessionState). spin_link_ticks setup (with_grp session now)) (settled_open s.client.heard (Ticked ∷ link) open_is) in
+      let asked : second_ask setup now ≡ Some (asks.Gap first count) = ap (λ (e : EndState). ask_of limits.hold e.heard) ticks ∙ is in
+      (λ i. record (after (ticks i) (asked i)) { begun = true })

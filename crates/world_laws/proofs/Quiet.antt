@@ -1,21 +1,15 @@
 -- Where no connection of a session stands, the client knows of none: its end is down, and no reply
 -- is owed and no spin under way.
-use Rattle.std.proofs.Common.{◌≡◌, ℕ, ◌+◌, Bool, true, false, ◌&&◌, ◌||◌, not, cond, List, [], ◌∷◌, refl, ap, ◌∙◌, Option, Some, None, nat_lt, nat_eq, length, take, drop}
-use Rattle.std.specs.List.{AllByRecursion, flat_map}
-use Rattle.std.specs.Option.{option_map}
+use Rattle.std.proofs.Common.{◌≡◌, ℕ, Bool, true, false, ◌&&◌, ◌||◌, not, cond, List, [], ◌∷◌, refl, ap, ◌∙◌, Option, Some, None, is_some, nat_lt, nat_eq, take}
+use Rattle.std.specs.List.{AllByRecursion}
+use Rattle.pitch_fields.proofs.Lists.{all_take}
 use Rattle.unit_packets.specs.Blocks.{Block}
-use Rattle.unit_packets.specs.Cutting.{blocks_of}
-use Rattle.pitch_io.specs.declared.line.Line.{Line}
-use Rattle.pitch_text.specs.declared.verb.Session.{Session}
-use Rattle.pitch_text.specs.declared.verb.Session.TheVariants.{Grp, Spin}
 use Rattle.pitch_text.specs.declared.verb.Verb.{Verb}
-use Rattle.pitch_text.specs.declared.verb.Verb.TheVariants as verbs
 use Rattle.pitch_messages.specs.declared.session.SessionMessage.{SessionMessage}
 use Rattle.pitch_messages.specs.declared.session.SessionMessage.TheVariants.{Login, LoginReply, GapRequest, GapReply, SpinAvailable, SpinRequest, SpinReply, SpinFinished}
 use Rattle.heard_items.specs.declared.item.Item.{Item}
 use Rattle.heard_items.specs.declared.item.Item.TheVariants as item
-use Rattle.heard_items.specs.Datagrams.{heard_blocks}
-use Rattle.heard_items.specs.Heard.{heard, heard_block, heard_messages, heard_sequenced}
+use Rattle.heard_items.specs.Heard.{heard, heard_block}
 use Rattle.pitch_model.specs.declared.ask.Ask.{Ask}
 use Rattle.pitch_model.specs.declared.ask.Ask.TheVariants as asks
 use Rattle.pitch_model.specs.Asking.{is_grp_up, is_spin_up, advertised_of, ask_of, ask_with, spin_or_gap, gap_or_none, gap_ask, asks_spin, wants, is_idle, least_held, owes, asked_at}
@@ -26,22 +20,23 @@ use Rattle.pitch_model.specs.Status.{top_of}
 use Rattle.session_ends.specs.declared.role.Role.TheVariants.{SpinLink}
 use Rattle.session_ends.specs.declared.role.Said.{Said}
 use Rattle.session_ends.specs.declared.role.Said.TheVariants.{Skipped, TooShort, Message}
-use Rattle.session_ends.specs.Events.{Event, Ticked, Told}
+use Rattle.session_ends.specs.Closing.{Setup, closed_of}
+use Rattle.session_ends.specs.Events.{Event, Ticked, Asked}
 use Rattle.session_ends.specs.Saying.{heard_by}
-use Rattle.spin_server.specs.Served.{Served}
-use Rattle.grp_session.specs.Serving.{Source}
-use Rattle.venue_core.specs.Refusals.{refusal}
-use Rattle.venue_core.specs.declared.error.VenueError.{VenueError}
 use Rattle.client_links.specs.Linking.{Lookups, link_tells}
 use Rattle.client_links.specs.Telling.{told_of, told_said, run_of}
 use Rattle.spin_path.specs.Paths.{heard_all}
+use Rattle.client_end.specs.Came.{Came, EndSetup, EndState, Heard, GrpMade, GrpTook, GrpCut, GrpLost, SpinMade, SpinTook, SpinCut, SpinLost, Second, of_grp, of_spin, grp_link_ticks, both_links_tick, ask_sent, client_asks, end_step}
 use Rattle.client_end.specs.Links.{gap_link, spin_link}
-use Rattle.world_model.specs.State.{State, Connection, Pipe, LooksIn, waiting, datagrams_on, passed_on}
-use Rattle.world_model.specs.Verbs.{Done, done, next_state, state_of, commanded_on, delivered_on, numbered, connected_on, cut_on, ended, ended_where, carried, wanted, up_on, down_on, link_fed, link_hears, link_ticked, link_ticks, server_has, servers_tick, budget_ticks, client_ticks, asked, took, with_down, hears}
+use Rattle.client_end.specs.Sessions.{SessionState, heard_cut, link_cut, link_made, settled_at, link_settled, fed_at, link_took, link_lost, happened, link_happened}
+use Rattle.client_end.specs.layers.Hearing.{IsGapTold}
+use Rattle.world_model.specs.Ends.{client_setup}
+use Rattle.world_model.specs.Verbs.{state_of}
 use Rattle.world_model.specs.declared.limits.Limits.{Limits}
-use Rattle.world_model.specs.declared.outcome.Outcome.TheVariants as outcome
-use Rattle.pitch_model.specs.Advertising.{with_sequence}
 use Rattle.client_end.proofs.LinkItems.{AreGapTold, gap_link_tells, link_all}
+use Rattle.world_laws.proofs.EachVerb.{all_hold, all_say}
+use Rattle.world_laws.proofs.Joined.{Link}
+use Rattle.world_laws.proofs.Lasting.{by_block}
 
 pub record SpinOff (E : List Entry) : Type 0 where
   pub down : is_spin_up E ≡ false
@@ -52,39 +47,22 @@ pub record GrpOff (E : List Entry) : Type 0 where
   pub down : is_grp_up E ≡ false
   pub free : owes E ≡ false
 
-pub record Quiet (s : State) : Type 0 where
-  pub grp : s.grp ≡ None → GrpOff s.heard
-  pub spin : s.spin ≡ None → SpinOff s.heard
+pub record Quiet (now : EndState) : Type 0 where
+  pub grp : now.grp ≡ None → GrpOff now.heard
+  pub spin : now.spin ≡ None → SpinOff now.heard
 
 -- ---- What blocks tell
-module _ (P : List Entry → Type 0) (message : (E : List Entry) (k : ℕ) (raw : Raw) → P E → P (entry.Message k raw ∷ E)) (next : (E : List Entry) (k : ℕ) → P E → P (entry.Next k ∷ E)) where
-  by_messages : (first : ℕ) (raws : List Raw) (E : List Entry) → P E → P (heard_messages first raws E)
-  by_messages first [] E p = p
-  by_messages first (raw ∷ raws) E p = by_messages (first + 1) raws (entry.Message first raw ∷ E) (message E first raw p)
-
-  by_sequenced : (first : ℕ) (raws : List Raw) (E : List Entry) → P E → P (heard_sequenced first raws E)
-  by_sequenced first [] E p = next E first p
-  by_sequenced first (raw ∷ raws) E p = by_messages first (raw ∷ raws) E p
-
-  by_blocks : (blocks : List Block) (E : List Entry) → P E → P (heard_blocks blocks E)
-  by_blocks [] E p = p
-  by_blocks (block ∷ blocks) E p = by_blocks blocks (heard_block block E) (by (nat_eq block.sequence 0))
-    where
-      by : (b : Bool) → P (cond b E (heard_sequenced block.sequence block.raws E))
-      by true = p
-      by false = by_sequenced block.sequence block.raws E p
-
 off_entry : (x : Entry) (E : List Entry) → is_spin_up (x ∷ E) ≡ is_spin_up E → spin_of (x ∷ E) ≡ spin_of E → advertised_of (x ∷ E) ≡ advertised_of E → SpinOff E → SpinOff (x ∷ E)
 off_entry x E up spin none off = record { down = up ∙ off.down; idle = spin ∙ off.idle; none = none ∙ off.none }
 
 off_grp : (x : Entry) (E : List Entry) → is_grp_up (x ∷ E) ≡ is_grp_up E → owes (x ∷ E) ≡ owes E → GrpOff E → GrpOff (x ∷ E)
 off_grp x E up owed off = record { down = up ∙ off.down; free = owed ∙ off.free }
 
-blocks_grp : (blocks : List Block) (E : List Entry) → GrpOff E → GrpOff (heard_blocks blocks E)
-blocks_grp = by_blocks GrpOff (λ E k raw p. off_grp (entry.Message k raw) E refl refl p) (λ E k p. off_grp (entry.Next k) E refl refl p)
+block_grp : (block : Block) (E : List Entry) → GrpOff E → GrpOff (heard_block block E)
+block_grp = by_block GrpOff (λ E k raw p. off_grp (entry.Message k raw) E refl refl p) (λ E k p. off_grp (entry.Next k) E refl refl p)
 
-blocks_spin : (blocks : List Block) (E : List Entry) → SpinOff E → SpinOff (heard_blocks blocks E)
-blocks_spin = by_blocks SpinOff (λ E k raw p. off_entry (entry.Message k raw) E refl refl refl p) (λ E k p. off_entry (entry.Next k) E refl refl refl p)
+block_spin : (block : Block) (E : List Entry) → SpinOff E → SpinOff (heard_block block E)
+block_spin = by_block SpinOff (λ E k raw p. off_entry (entry.Message k raw) E refl refl refl p) (λ E k p. off_entry (entry.Next k) E refl refl refl p)
 
 -- ---- What links tell
 gap_items : (items : List Item) (E : List Entry) → AreGapTold items → SpinOff E → SpinOff (heard_all items E)
@@ -187,144 +165,127 @@ no_gap_asked H E b down = by (top_of E)
     by None = refl
     by (Some top) = at_top top (nat_eq (reach H E) top)
 
--- ---- Parts of verbs
+-- ---- One session, and what is kept over it of the other
 some_none : {X : Type 0} (x : X) → ◌≡◌ {A = Option X} (Some x) None → ⊥
 some_none x e = cc
 
-map_none : {X : Type 0} (f : X → X) (o : Option X) → option_map f o ≡ None → o ≡ None
-map_none f None e = refl
-map_none f (Some x) e = absurd (some_none (f x) e)
+module _ (setup : Setup) (down : Entry) (Off Over : List Entry → Type 0) (Told : Item → Type 0) (downs : (E : List Entry) → Off (down ∷ E)) (overs : (E : List Entry) → Over E → Over (down ∷ E))
+    (tells : (before : List (Event Lookups)) (bytes : List ℕ) → AllByRecursion Told (link_tells setup before bytes)) (told : (items : List Item) (E : List Entry) → AllByRecursion Told items → Over E → Over (heard_all items E)) where
+  record IsOff (x : SessionState) : Type 0 where
+    off : x.link ≡ None → Off x.heard
+    over : Over x.heard
 
-ended_quiet : (session : Session) (s : State) → Quiet s → Quiet (ended session s)
-ended_quiet Grp s q = record { grp = λ e. record { down = refl; free = refl }; spin = λ e. off_entry entry.GrpDown s.heard refl refl refl (q.spin e) }
-ended_quiet Spin s q = record { grp = λ e. off_grp entry.SpinDown s.heard refl refl (q.grp e); spin = λ e. record { down = refl; idle = refl; none = refl } }
+  cut_off : (E : List Entry) (link : Link) → (link ≡ None → Off E) → Off (heard_cut down E link)
+  cut_off E None off = off refl
+  cut_off E (Some events) off = downs E
 
-where_quiet : (b : Bool) (session : Session) (s : State) → Quiet s → Quiet (ended_where b session s)
-where_quiet true session s q = ended_quiet session s q
-where_quiet false session s q = q
+  cut_over : (E : List Entry) (link : Link) → Over E → Over (heard_cut down E link)
+  cut_over E None over = over
+  cut_over E (Some events) over = overs E over
 
-server_quiet : (unit : ℕ) (session : Session) (event : Event (LooksIn session)) (s : State) → Quiet s → Quiet (server_has unit session event s)
-server_quiet unit Grp event s q = record { grp = λ e. q.grp (map_none _ s.grp e); spin = q.spin }
-server_quiet unit Spin event s q = record { grp = q.grp; spin = λ e. q.spin (map_none _ s.spin e) }
+  cut_is_off : (x : SessionState) → (x.link ≡ None → Off x.heard) → Over x.heard → IsOff (link_cut down x)
+  cut_is_off x off over = record { off = λ e. cut_off x.heard x.link off; over = cut_over x.heard x.link over }
 
-link_quiet : (unit : ℕ) (session : Session) (s : State) → Quiet s → Quiet (link_ticks unit session s)
-link_quiet unit Grp s q = where_quiet _ Grp (link_ticked unit Grp s) (record { grp = λ e. q.grp (map_none _ s.grp e); spin = q.spin })
-link_quiet unit Spin s q = where_quiet _ Spin (link_ticked unit Spin s) (record { grp = q.grp; spin = λ e. q.spin (map_none _ s.spin e) })
+  made_is_off : (x : SessionState) → Over x.heard → IsOff (link_made down x)
+  made_is_off x over = record { off = λ e. absurd (some_none [] e); over = cut_over x.heard x.link over }
 
-asked_grp : (unit : ℕ) (a : Option Ask) (g : Option (Connection Source)) → asked unit Grp a g ≡ None → g ≡ None
-asked_grp unit None g e = e
-asked_grp unit (Some (asks.Gap first count)) g e = map_none _ g e
-asked_grp unit (Some (asks.Spin n)) g e = e
+  settled_is_off : (E : List Entry) (link : Link) → (link ≡ None → Off E) → Over E → IsOff (settled_at setup down E link)
+  settled_is_off E None off over = record { off = off; over = over }
+  settled_is_off E (Some events) off over = by (is_some (closed_of setup events))
+    where
+      by : (b : Bool) → IsOff (cond b (record { heard = down ∷ E; link = None }) (record { heard = E; link = Some events }))
+      by true = record { off = λ e. downs E; over = overs E over }
+      by false = record { off = λ e. absurd (some_none events e); over = over }
 
-asked_spin : (unit : ℕ) (a : Option Ask) (g : Option (Connection (List Served))) → asked unit Spin a g ≡ None → g ≡ None
-asked_spin unit None g e = e
-asked_spin unit (Some (asks.Gap first count)) g e = e
-asked_spin unit (Some (asks.Spin n)) g e = map_none _ g e
+  fed_is_off : (bytes : List ℕ) (E : List Entry) (link : Link) → (link ≡ None → Off E) → Over E → IsOff (fed_at setup bytes E link)
+  fed_is_off bytes E None off over = record { off = off; over = over }
+  fed_is_off bytes E (Some events) off over = record { off = λ e. absurd (some_none _ e); over = told (link_tells setup events bytes) E (tells events bytes) over }
 
-client_quiet : (unit : ℕ) (limits : Limits) (s : State) → Quiet s → Quiet (client_ticks unit limits s).state
-client_quiet unit limits s q = record {
-  grp = λ e.
-      let off = q.grp (asked_grp unit (ask_of limits.hold s.heard) s.grp e) in
-      record { down = off.down; free = no_gap_asked limits.hold s.heard (owes s.heard) off.down ∙ off.free };
-  spin = λ e.
-      let off = q.spin (asked_spin unit (ask_of limits.hold s.heard) s.spin e) in
-      record { down = off.down; idle = ap (spin_asked (ask_of limits.hold s.heard)) off.idle ∙ no_spin_asked limits.hold s.heard off.down; none = off.none };
-}
+  took_is_off : (bytes : List ℕ) (x : SessionState) → (x.link ≡ None → Off x.heard) → Over x.heard → IsOff (link_took setup down bytes x)
+  took_is_off bytes x off over =
+      let fed : SessionState = fed_at setup bytes x.heard x.link in
+      let is = fed_is_off bytes x.heard x.link off over in
+      settled_is_off fed.heard fed.link is.off is.over
+
+  lost_is_off : (bytes : List ℕ) (count : ℕ) (E : List Entry) (link : Link) → (link ≡ None → Off E) → Over E → IsOff (link_lost setup down bytes count (record { heard = E; link = link }))
+  lost_is_off bytes count E None off over = record { off = off; over = over }
+  lost_is_off bytes count E (Some events) off over = record { off = λ e. downs _; over = overs _ (told (take count (link_tells setup events bytes)) E (all_take Told count (link_tells setup events bytes) (tells events bytes)) over) }
+
+  parted_is_off : (bytes : List ℕ) (count : ℕ) (x : SessionState) → (x.link ≡ None → Off x.heard) → Over x.heard → IsOff (link_lost setup down bytes count x)
+  parted_is_off bytes count x off over = lost_is_off bytes count x.heard x.link off over
+
+  happens_is_off : (event : Event Lookups) (E : List Entry) (link : Link) → (link ≡ None → Off E) → happened event link ≡ None → Off E
+  happens_is_off event E None off e = off refl
+  happens_is_off event E (Some events) off e = absurd (some_none _ e)
+
+  ticked_is_off : (x : SessionState) → (x.link ≡ None → Off x.heard) → Over x.heard → IsOff (link_settled setup down (link_happened Ticked x))
+  ticked_is_off x off over = settled_is_off x.heard (happened Ticked x.link) (happens_is_off Ticked x.heard x.link off) over
+
+-- ---- All that comes to the client's end
+module _ (s : EndSetup) (now : EndState) (q : Quiet now) where
+  abbrev SpinKept : List Entry → Type 0
+  SpinKept E = now.spin ≡ None → SpinOff E
+
+  abbrev GrpKept : Link → List Entry → Type 0
+  GrpKept link E = link ≡ None → GrpOff E
+
+  abbrev grp_downs : (E : List Entry) → GrpOff (entry.GrpDown ∷ E)
+  grp_downs E = record { down = refl; free = refl }
+
+  abbrev spin_downs : (E : List Entry) → SpinOff (entry.SpinDown ∷ E)
+  spin_downs E = record { down = refl; idle = refl; none = refl }
+
+  abbrev over_grp : (E : List Entry) → SpinKept E → SpinKept (entry.GrpDown ∷ E)
+  over_grp E kept e = off_entry entry.GrpDown E refl refl refl (kept e)
+
+  abbrev over_spin : (link : Link) (E : List Entry) → GrpKept link E → GrpKept link (entry.SpinDown ∷ E)
+  over_spin link E kept e = off_grp entry.SpinDown E refl refl (kept e)
+
+  abbrev gap_told : (items : List Item) (E : List Entry) → AreGapTold items → SpinKept E → SpinKept (heard_all items E)
+  gap_told items E all kept e = gap_items items E all (kept e)
+
+  abbrev spin_told : (link : Link) (items : List Item) (E : List Entry) → AllByRecursion NoProxy items → GrpKept link E → GrpKept link (heard_all items E)
+  spin_told link items E all kept e = spin_items items E all (kept e)
+
+  asked_quiet : (a : Option Ask) (x : EndState) → Quiet x → Quiet (ask_sent s a x)
+  asked_quiet None x y = y
+  asked_quiet (Some (asks.Gap first count)) x y = record { grp = λ e. y.grp (still x.grp e); spin = y.spin }
+    where
+      still : (o : Link) → happened (Asked (GapRequest s.unit first count)) o ≡ None → o ≡ None
+      still None e = refl
+      still (Some events) e = absurd (some_none _ e)
+  asked_quiet (Some (asks.Spin n)) x y = record { grp = y.grp; spin = λ e. y.spin (still x.spin e) }
+    where
+      still : (o : Link) → happened (Asked (SpinRequest n)) o ≡ None → o ≡ None
+      still None e = refl
+      still (Some events) e = absurd (some_none _ e)
+
+  client_quiet : (x : EndState) → Quiet x → Quiet (client_asks s x)
+  client_quiet x y = asked_quiet (ask_of s.hold x.heard) (record x { heard = entry.Ticked (ask_of s.hold x.heard) ∷ x.heard }) (record {
+    grp = λ e. let off = y.grp e in record { down = off.down; free = no_gap_asked s.hold x.heard (owes x.heard) off.down ∙ off.free };
+    spin = λ e. let off = y.spin e in record { down = off.down; idle = ap (spin_asked (ask_of s.hold x.heard)) off.idle ∙ no_spin_asked s.hold x.heard off.down; none = off.none };
+  })
+
+  step_quiet : (came : Came) → Quiet (end_step s came now)
+  step_quiet (Heard block) = record { grp = λ e. block_grp block now.heard (q.grp e); spin = λ e. block_spin block now.heard (q.spin e) }
+  step_quiet GrpMade = let x = made_is_off gap_link entry.GrpDown GrpOff SpinKept IsGapTold grp_downs over_grp gap_link_tells gap_told (of_grp now) q.spin in record { grp = x.off; spin = x.over }
+  step_quiet (GrpTook bytes) = let x = took_is_off gap_link entry.GrpDown GrpOff SpinKept IsGapTold grp_downs over_grp gap_link_tells gap_told bytes (of_grp now) q.grp q.spin in record { grp = x.off; spin = x.over }
+  step_quiet GrpCut = let x = cut_is_off gap_link entry.GrpDown GrpOff SpinKept IsGapTold grp_downs over_grp gap_link_tells gap_told (of_grp now) q.grp q.spin in record { grp = x.off; spin = x.over }
+  step_quiet (GrpLost bytes count) = let x = parted_is_off gap_link entry.GrpDown GrpOff SpinKept IsGapTold grp_downs over_grp gap_link_tells gap_told bytes count (of_grp now) q.grp q.spin in record { grp = x.off; spin = x.over }
+  step_quiet SpinMade = let x = made_is_off (spin_link s.unit) entry.SpinDown SpinOff (GrpKept now.grp) NoProxy spin_downs (over_spin now.grp) (spin_tells s.unit) (spin_told now.grp) (of_spin now) q.grp in record { grp = x.over; spin = x.off }
+  step_quiet (SpinTook bytes) =
+      let x = took_is_off (spin_link s.unit) entry.SpinDown SpinOff (GrpKept now.grp) NoProxy spin_downs (over_spin now.grp) (spin_tells s.unit) (spin_told now.grp) bytes (of_spin now) q.spin q.grp in record { grp = x.over; spin = x.off }
+  step_quiet SpinCut = let x = cut_is_off (spin_link s.unit) entry.SpinDown SpinOff (GrpKept now.grp) NoProxy spin_downs (over_spin now.grp) (spin_tells s.unit) (spin_told now.grp) (of_spin now) q.spin q.grp in record { grp = x.over; spin = x.off }
+  step_quiet (SpinLost bytes count) =
+      let x = parted_is_off (spin_link s.unit) entry.SpinDown SpinOff (GrpKept now.grp) NoProxy spin_downs (over_spin now.grp) (spin_tells s.unit) (spin_told now.grp) bytes count (of_spin now) q.spin q.grp in record { grp = x.over; spin = x.off }
+  step_quiet Second =
+      let g = ticked_is_off gap_link entry.GrpDown GrpOff SpinKept IsGapTold grp_downs over_grp gap_link_tells gap_told (of_grp now) q.grp q.spin in
+      let one : EndState = grp_link_ticks now in
+      let k = ticked_is_off (spin_link s.unit) entry.SpinDown SpinOff (GrpKept one.grp) NoProxy spin_downs (over_spin one.grp) (spin_tells s.unit) (spin_told one.grp) (of_spin one) g.over g.off in
+      client_quiet (both_links_tick s now) (record { grp = k.over; spin = k.off })
 
 -- ---- All verbs
-module _ (unit : ℕ) (limits : Limits) (s : State) (q : Quiet s) where
-  abbrev Leaves : Done → Type 0
-  Leaves d = Quiet (record d.state { begun = true })
-
-  heard_quiet : (line : Line) (blocks : List Block) → Quiet (record (hears unit limits line blocks s) { begun = true })
-  heard_quiet line blocks = record { grp = λ e. blocks_grp blocks s.heard (q.grp e); spin = λ e. blocks_spin blocks s.heard (q.spin e) }
-
-  carried_quiet : (n : ℕ) (pipe : Pipe) (after : State) → Quiet (record after { begun = true }) → Leaves (carried n pipe after s)
-  carried_quiet n pipe after a = by (nat_lt (length (waiting pipe)) n)
-    where
-      by : (b : Bool) → Leaves (cond b (done (outcome.TooFew n (length (waiting pipe))) s) (done (outcome.Carried n) after))
-      by true = record { grp = q.grp; spin = q.spin }
-      by false = a
-
-  begun_quiet : (x : State) → Quiet x → Quiet (record x { begun = true })
-  begun_quiet x y = record { grp = y.grp; spin = y.spin }
-
-  up_grp : (bytes : Option ℕ) (o : Option (Connection Source)) → Leaves (up_on unit limits Grp bytes o s)
-  up_grp bytes None = record { grp = q.grp; spin = q.spin }
-  up_grp bytes (Some c) = carried_quiet _ c.up _ (record { grp = λ e. absurd (some_none _ e); spin = q.spin })
-
-  up_spin : (bytes : Option ℕ) (o : Option (Connection (List Served))) → Leaves (up_on unit limits Spin bytes o s)
-  up_spin bytes None = record { grp = q.grp; spin = q.spin }
-  up_spin bytes (Some c) = carried_quiet _ c.up _ (record { grp = q.grp; spin = λ e. absurd (some_none _ e) })
-
-  fed_grp : (piece : List ℕ) (c : Connection Source) → Quiet (link_fed unit Grp piece c s)
-  fed_grp piece c = where_quiet _ Grp (link_hears unit Grp piece c s)
-      (record { grp = λ e. absurd (some_none _ e); spin = λ e. gap_items (link_tells gap_link c.link piece) s.heard (gap_link_tells c.link piece) (q.spin e) })
-
-  fed_spin : (piece : List ℕ) (c : Connection (List Served)) → Quiet (link_fed unit Spin piece c s)
-  fed_spin piece c = where_quiet _ Spin (link_hears unit Spin piece c s)
-      (record { grp = λ e. spin_items (link_tells (spin_link unit) c.link piece) s.heard (spin_tells unit c.link piece) (q.grp e); spin = λ e. absurd (some_none _ e) })
-
-  down_grp : (bytes : Option ℕ) (o : Option (Connection Source)) → Leaves (down_on unit Grp bytes o s)
-  down_grp bytes None = record { grp = q.grp; spin = q.spin }
-  down_grp bytes (Some c) = carried_quiet _ c.down _ (begun_quiet _ (fed_grp (take (wanted bytes c.down) (waiting c.down)) (with_down (took (wanted bytes c.down) c.down) c)))
-
-  down_spin : (bytes : Option ℕ) (o : Option (Connection (List Served))) → Leaves (down_on unit Spin bytes o s)
-  down_spin bytes None = record { grp = q.grp; spin = q.spin }
-  down_spin bytes (Some c) = carried_quiet _ c.down _ (begun_quiet _ (fed_spin (take (wanted bytes c.down) (waiting c.down)) (with_down (took (wanted bytes c.down) c.down) c)))
-
-  quiet_verb : (verb : Verb) → Quiet (next_state unit limits verb s)
-  quiet_verb (verbs.Command command) = by (refusal s.accepted command)
-    where
-      by : (o : Option VenueError) → Leaves (commanded_on o command s)
-      by None = record { grp = q.grp; spin = q.spin }
-      by (Some error) = record { grp = q.grp; spin = q.spin }
-  quiet_verb (verbs.Setup hold kept second minute day) = record { grp = q.grp; spin = q.spin }
-  quiet_verb verbs.Flush = record { grp = q.grp; spin = q.spin }
-  quiet_verb verbs.Beat = record { grp = q.grp; spin = q.spin }
-  quiet_verb (verbs.Deliver line number) = by (numbered (datagrams_on s line) number)
-    where
-      by : (o : Option (List ℕ)) → Leaves (delivered_on unit limits line number o s)
-      by None = record { grp = q.grp; spin = q.spin }
-      by (Some datagram) = let h = heard_quiet line (blocks_of datagram) in record { grp = h.grp; spin = h.spin }
-  quiet_verb (verbs.Rest line) = let h = heard_quiet line (flat_map blocks_of (drop (passed_on s.passed line) (datagrams_on s line))) in record { grp = h.grp; spin = h.spin }
-  quiet_verb (verbs.Connect Grp) = by s.grp
-    where
-      by : (o : Option (Connection Source)) → Leaves (connected_on unit Grp o s)
-      by (Some c) = record { grp = q.grp; spin = q.spin }
-      by None = record { grp = λ e. absurd (some_none _ e); spin = q.spin }
-  quiet_verb (verbs.Connect Spin) = by s.spin
-    where
-      by : (o : Option (Connection (List Served))) → Leaves (connected_on unit Spin o s)
-      by (Some c) = record { grp = q.grp; spin = q.spin }
-      by None = record { grp = q.grp; spin = λ e. absurd (some_none _ e) }
-  quiet_verb (verbs.Cut Grp) = by s.grp
-    where
-      by : (o : Option (Connection Source)) → Leaves (cut_on o (ended Grp s) s)
-      by None = record { grp = q.grp; spin = q.spin }
-      by (Some c) = begun_quiet (ended Grp s) (ended_quiet Grp s q)
-  quiet_verb (verbs.Cut Spin) = by s.spin
-    where
-      by : (o : Option (Connection (List Served))) → Leaves (cut_on o (ended Spin s) s)
-      by None = record { grp = q.grp; spin = q.spin }
-      by (Some c) = begun_quiet (ended Spin s) (ended_quiet Spin s q)
-  quiet_verb (verbs.Up Grp bytes) = up_grp bytes s.grp
-  quiet_verb (verbs.Up Spin bytes) = up_spin bytes s.spin
-  quiet_verb (verbs.Down Grp bytes) = down_grp bytes s.grp
-  quiet_verb (verbs.Down Spin bytes) = down_spin bytes s.spin
-  quiet_verb verbs.Advertise =
-      let a = server_quiet unit Spin (Told (length s.accepted)) (record s { advertised = with_sequence s.advertised (length s.accepted) }) (record { grp = q.grp; spin = q.spin }) in
-      record { grp = a.grp; spin = a.spin }
-  quiet_verb verbs.Tick =
-      let one = server_quiet unit Grp Ticked (budget_ticks s) (record { grp = q.grp; spin = q.spin }) in
-      let two = server_quiet unit Spin Ticked _ one in
-      let three = link_quiet unit Grp (servers_tick unit s) two in
-      let four = link_quiet unit Spin _ three in
-      let five = client_quiet unit limits _ four in
-      record { grp = five.grp; spin = five.spin }
-  quiet_verb verbs.Show = record { grp = q.grp; spin = q.spin }
-  quiet_verb (verbs.Quote symbol) = record { grp = q.grp; spin = q.spin }
-
-pub quiet : (unit : ℕ) (limits : Limits) (done : List Verb) → Quiet (state_of unit limits done)
-quiet unit limits [] = record { grp = λ e. record { down = refl; free = refl }; spin = λ e. record { down = refl; idle = refl; none = refl } }
-quiet unit limits (verb ∷ before) = quiet_verb unit limits (state_of unit limits before) (quiet unit limits before) verb
+pub quiet : (unit : ℕ) (limits : Limits) (done : List Verb) → Quiet (state_of unit limits done).client
+quiet unit limits done =
+    (all_hold unit limits (λ command. Unit {0}) (λ n messages advertised t. Unit {0}) Quiet (λ n now bytes o v. v) (λ n messages advertised t command is fine v. v) (λ n messages advertised t v. v) (λ n messages advertised t v. v)
+    (λ came now q. step_quiet (client_setup unit limits) now q came) done (all_say done) tt (record { grp = λ e. record { down = refl; free = refl }; spin = λ e. record { down = refl; idle = refl; none = refl } })).1

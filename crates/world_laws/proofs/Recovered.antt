@@ -1,11 +1,10 @@
 -- A client that lost its connections is current after one round with a Spin Server, at all that the
 -- venue accepted.
-use Rattle.std.proofs.Common.{◌≡◌, ℕ, ◌<◌, ◌≤◌, Bool, true, false, ◌&&◌, ◌||◌, not, cond, List, [], ◌∷◌, length, refl, sym, ap, ◌∙◌, subst, arith, take, max, Option, Some, None, is_some, inl, inr, nat_lt, unwrap_or}
+use Rattle.std.proofs.Common.{◌≡◌, ℕ, ◌<◌, ◌≤◌, Bool, true, false, ◌&&◌, ◌||◌, not, cond, List, [], ◌∷◌, length, refl, sym, ap, ◌∙◌, subst, arith, max, Option, Some, None, inl, inr, nat_lt, unwrap_or}
 use Rattle.std.proofs.lemmas.Bool.{eq-eqb, ne_eqb, lt-ltb, and_from, cases_lt}
 use Rattle.pitch_fields.specs.Limits.{last_sequence}
 use Rattle.pitch_text.specs.declared.verb.Session.TheVariants.{Spin as SpinSession}
 use Rattle.pitch_text.specs.declared.verb.Verb.TheVariants as verbs
-use Rattle.pitch_model.specs.declared.ask.Ask.{Ask}
 use Rattle.pitch_model.specs.declared.ask.Ask.TheVariants as asks
 use Rattle.pitch_model.specs.declared.status.Status.TheVariants.{Current, Behind}
 use Rattle.pitch_model.specs.Advertising.{last_ten, newest_of, with_sequence}
@@ -18,22 +17,17 @@ use Rattle.pitch_model.specs.Reach.{reach}
 use Rattle.pitch_model.specs.Status.{raised, top_of, status_at, status_of}
 use Rattle.pitch_model.proofs.Honesty.{honest_top}
 use Rattle.pitch_model.proofs.Topmost.{reach_le_top}
-use Rattle.session_ends.specs.Closing.{closed_of}
-use Rattle.session_ends.specs.Events.{Fed}
 use Rattle.grp_session.specs.Budget.{Spent, next_second}
 use Rattle.spin_server.specs.Served.{is_served}
 use Rattle.spin_path.specs.Paths.{heard_all}
 use Rattle.spin_path.specs.PathLaws.{IsFeed}
-use Rattle.client_links.specs.Linking.{NoLookup, link_tells}
-use Rattle.client_end.specs.Links.{spin_link}
-use Rattle.world_model.specs.State.{State, waiting}
-use Rattle.world_model.specs.Verbs.{next_state, asked, done, ended_where, link_hears, took, with_down}
+use Rattle.world_model.specs.State.{State}
+use Rattle.world_model.specs.Verbs.{next_state}
 use Rattle.world_model.specs.declared.limits.Limits.{Limits}
-use Rattle.world_model.specs.declared.outcome.Outcome.TheVariants as outcome
-use Rattle.world_laws.proofs.Lasting.{Lasts, items_last, reached_lasts, IsTold, told_lasts}
+use Rattle.world_laws.proofs.Lasting.{Lasts, verb_lasts, reached_lasts, IsTold, told_lasts}
 use Rattle.world_laws.proofs.ImageRound.{SpinConnection}
-use Rattle.world_laws.proofs.RoundVerbs.{at, fed_up, up_step, tick_step, both_ticked}
-use Rattle.world_laws.proofs.ImageTaken.{login_items, newest, c3, c6, E1, advertised_state, told_state, asked_state, served_state, image_reached, ticked_open}
+use Rattle.world_laws.proofs.RoundVerbs.{at}
+use Rattle.world_laws.proofs.ImageTaken.{login_items, newest, c3, c6, E1, advertised_state, told_state, asked_state, served_state, image_reached}
 
 -- ---- What was heard of a login and an advertised sequence
 told_spin : (n : ℕ) (o : Option ℕ) (E : List Entry) → spin_of (heard_all (login_items o n) E) ≡ spin_of E
@@ -77,53 +71,12 @@ asks_image H n q F top le below grp up none newest =
     or_true true = refl
     or_true false = refl
 
--- ---- The verbs that remain, whatever is asked
--- the state after some verbs is one of these, and what lasts of a history holds of the client's
-pub record Ends (P : List Entry → Type 0) (s : State) (A : List ℕ) (x : State) : Type 0 where
-  pub spent : Spent
-  pub spin : Option SpinConnection
-  pub heard : List Entry
-  pub is : x ≡ at s spent A spin heard
-  pub holds : P heard
-
-module _ (P : List Entry → Type 0) (lasts : Lasts P) (unit : ℕ) (limits : Limits) (s : State) (t : Spent) (A : List ℕ) (E : List Entry) (p : P E) where
-  down_ends : (c : SpinConnection) → Ends P s A (next_state unit limits (verbs.Down SpinSession None) (at s t A (Some c) E))
-  down_ends c = by (nat_lt k k)
-    where
-      k : ℕ
-      k = length (waiting c.down)
-
-      piece : List ℕ
-      piece = take k (waiting c.down)
-
-      after : State
-      after = link_hears unit SpinSession piece (with_down (took k c.down) c) (at s t A (Some c) E)
-
-      inner : (b : Bool) → Ends P s A (record (ended_where b SpinSession after) { begun = true })
-      inner false = record { spent = t; spin = after.spin; heard = after.heard; is = refl; holds = items_last P lasts (link_tells (spin_link unit) c.link piece) E p }
-      inner true = record { spent = t; spin = None; heard = entry.SpinDown ∷ after.heard; is = refl; holds = lasts after.heard entry.SpinDown (items_last P lasts (link_tells (spin_link unit) c.link piece) E p) }
-
-      shut : Bool
-      shut = is_some (closed_of (spin_link unit) (Fed piece NoLookup ∷ c.link))
-
-      by : (b : Bool) → Ends P s A (record (cond b (done (outcome.TooFew k k) (at s t A (Some c) E)) (done (outcome.Carried k) (ended_where shut SpinSession after))).state { begun = true })
-      by true = record { spent = t; spin = Some c; heard = E; is = refl; holds = p }
-      by false = inner shut
-
-  up_down_ends : (c : SpinConnection) → Ends P s A (next_state unit limits (verbs.Down SpinSession None) (next_state unit limits (verbs.Up SpinSession None) (at s t A (Some c) E)))
-  up_down_ends c = subst (λ (x : State). Ends P s A (next_state unit limits (verbs.Down SpinSession None) x)) (sym (up_step unit limits s t A E c)) (down_ends (fed_up unit limits s t A E c (waiting c.up)))
-
-asked_one : (unit : ℕ) (a : Option Ask) (c : SpinConnection) → (k : SpinConnection) × (asked unit SpinSession a (Some c) ≡ Some k)
-asked_one unit None c = (c, refl)
-asked_one unit (Some (asks.Gap first count)) c = (c, refl)
-asked_one unit (Some (asks.Spin n)) c = (_, refl)
-
 -- ---- The round
-module _ (unit : ℕ) (small : unit < 256) (limits : Limits) (s : State) (t : Spent) (A : List ℕ) (E : List Entry) (venues : IsFeed s.accepted)
-    (old : (m : ℕ) → newest_of (last_ten A) ≡ Some m → m ≤ length s.accepted) (served : is_served (record { messages = s.accepted; advertised = last_ten (with_sequence A (length s.accepted)) }) (length s.accepted) ≡ true)
+module _ (unit : ℕ) (small : unit < 256) (limits : Limits) (s : State) (t : Spent) (A : List ℕ) (E : List Entry) (venues : IsFeed s.venue.messages)
+    (old : (m : ℕ) → newest_of (last_ten A) ≡ Some m → m ≤ length s.venue.messages) (served : is_served (record { messages = s.venue.messages; advertised = last_ten (with_sequence A (length s.venue.messages)) }) (length s.venue.messages) ≡ true)
     (grp : is_grp_up E ≡ false) (idle : spin_of E ≡ NoSpin) (none : advertised_of E ≡ None) where
   abbrev n : ℕ
-  n = length s.accepted
+  n = length s.venue.messages
 
   abbrev H : ℕ
   H = limits.hold
@@ -150,22 +103,21 @@ module _ (unit : ℕ) (small : unit < 256) (limits : Limits) (s : State) (t : Sp
   abbrev pub whole : State
   whole = next_state unit limits (verbs.Down SpinSession None) (next_state unit limits (verbs.Up SpinSession None) (next_state unit limits verbs.Tick begun))
 
-  pub whole_ends : (P : List Entry → Type 0) → Lasts P → P F → Ends P s A' whole
-  whole_ends P lasts p =
-      let one = asked_one unit (ask_of H F) (both_ticked unit limits s t A' F k3) in
-      let ticked : next_state unit limits verbs.Tick begun ≡ at s (next_second t) A' (Some one.0) (entry.Ticked (ask_of H F) ∷ F) =
-      ap (next_state unit limits verbs.Tick) begun_is ∙ tick_step unit limits s t A' F k3 (ask_of H F) (ticked_open unit small limits s t A E venues few) refl
-      ∙ ap (λ (g : Option SpinConnection). at s (next_second t) A' g (entry.Ticked (ask_of H F) ∷ F)) one.1 in
-      let ends = up_down_ends P lasts unit limits s (next_second t) A' (entry.Ticked (ask_of H F) ∷ F) (lasts F (entry.Ticked (ask_of H F)) p) one.0 in
-      subst (λ (x : State). Ends P s A' (next_state unit limits (verbs.Down SpinSession None) (next_state unit limits (verbs.Up SpinSession None) x))) (sym ticked) ends
+  -- what lasts of a history holds of it then, whatever is asked
+  whole_lasts : (P : List Entry → Type 0) → Lasts P → P F → P whole.client.heard
+  whole_lasts P lasts p =
+      let ticked : State = next_state unit limits verbs.Tick begun in
+      let at_begun : P begun.client.heard = subst (λ (x : State). P x.client.heard) (sym begun_is) p in
+      verb_lasts P lasts unit limits (verbs.Down SpinSession None) (next_state unit limits (verbs.Up SpinSession None) ticked)
+      (verb_lasts P lasts unit limits (verbs.Up SpinSession None) ticked (verb_lasts P lasts unit limits verbs.Tick begun at_begun))
 
   told_now : IsTold n F
   told_now = told_top n (newest unit small limits s t A E) E
 
-  pub whole_told : IsTold n whole.heard
-  whole_told = let ends = whole_ends (IsTold n) (told_lasts n) told_now in subst (λ (x : State). IsTold n x.heard) (sym ends.is) ends.holds
+  pub whole_told : IsTold n whole.client.heard
+  whole_told = whole_lasts (IsTold n) (told_lasts n) told_now
 
-  pub whole_reached : n ≤ reach H whole.heard
+  pub whole_reached : n ≤ reach H whole.client.heard
   whole_reached = elim (cases_lt (reach H F) n) [
     | inl below ↦
         let q = told_now in
@@ -177,20 +129,20 @@ module _ (unit : ℕ) (small : unit < 256) (limits : Limits) (s : State) (t : Sp
         ∙ ap (λ (x : State). next_state unit limits (verbs.Down SpinSession None) (next_state unit limits (verbs.Up SpinSession None) x)) (asked_state unit small limits s t A E venues few ask)
         ∙ ap (next_state unit limits (verbs.Down SpinSession None)) (served_state unit small limits s t A E venues few served) in
         image_reached unit small limits s t A E venues few served whole is
-    | inr known ↦ let ends = whole_ends (λ G. n ≤ reach H G) (reached_lasts H n) known in subst (λ (x : State). n ≤ reach H x.heard) (sym ends.is) ends.holds
+    | inr known ↦ whole_lasts (λ G. n ≤ reach H G) (reached_lasts H n) known
   ]
 
   -- what was heard is honest: then it is current at all that was accepted
-  pub whole_current : Honest image s.accepted whole.heard → status_of H whole.heard ≡ Current n
+  pub whole_current : Honest image s.venue.messages whole.client.heard → status_of H whole.client.heard ≡ Current n
   whole_current honest =
       let q = whole_told in
       let r = whole_reached in
-      let top : unwrap_or (top_of whole.heard) 0 ≡ q.0 = ap (λ o. unwrap_or o 0) q.1.0 in
-      let most = honest_top image s.accepted whole.heard honest in
-      let within = reach_le_top H whole.heard in
+      let top : unwrap_or (top_of whole.client.heard) 0 ≡ q.0 = ap (λ o. unwrap_or o 0) q.1.0 in
+      let most = honest_top image s.venue.messages whole.client.heard honest in
+      let within = reach_le_top H whole.client.heard in
       let le = q.1.1 in
       let top_is : q.0 ≡ n = omega (arith, top, most, le) in
-      let reach_is : reach H whole.heard ≡ n = omega (arith, r, within, top, most) in
-      ap (status_at (reach H whole.heard)) (q.1.0 ∙ ap Some top_is)
+      let reach_is : reach H whole.client.heard ≡ n = omega (arith, r, within, top, most) in
+      ap (status_at (reach H whole.client.heard)) (q.1.0 ∙ ap Some top_is)
       ∙ ap (λ (m : ℕ). status_at m (Some n)) reach_is
       ∙ ap (λ (b : Bool). cond b (Current n) (Behind n n)) (eq-eqb n n refl)

@@ -28,8 +28,12 @@ use Rattle.session_ends.specs.Sending.{message_bytes, new_items}
 use Rattle.session_ends.proofs.Inboxes.{items_none}
 use Rattle.spin_server.specs.Served.{Served}
 use Rattle.spin_server.specs.Serving.{Spin, spin_answer, spin_said_answer, spin_message_answer, spin_fed_answer, running_spin, pumped}
-use Rattle.world_model.specs.Ends.{spin_server, the_account}
+use Rattle.world_model.specs.Ends.{the_account}
 use Rattle.world_laws.proofs.OneBlock.{place, rest_more, new_is, logged_is, closed_is}
+
+-- the Spin Server of a unit, under any limits
+abbrev pub spin_server : ℕ → Setup
+spin_server unit = record { role = SpinServer; unit = unit; accounts = the_account ∷ []; in_use = false }
 
 -- a server that is open and logged in, behind whole blocks; so many ticks passed in silence
 pub record Serves (unit : ℕ) (es : List (Event (List Served))) (spin : Option Spin) : Type 0 where

@@ -1,14 +1,9 @@
 -- No more requests are accepted than the limits allow.
-use Rattle.std.proofs.Common.{◌≡◌, ◌≢◌, ℕ, suc, ◌+◌, ◌/◌, ◌≤◌, ◌<◌, Bool, true, false, not, List, [], ◌∷◌, length, refl, sym, ap, ◌∙◌, subst, arith, Option, Some, None, ◌⊎◌, inl, inr, nat_eq, cond, take}
+use Rattle.std.proofs.Common.{◌≡◌, ◌≢◌, ℕ, suc, ◌+◌, ◌/◌, ◌≤◌, ◌<◌, Bool, true, false, not, List, [], ◌∷◌, length, refl, sym, ap, ◌∙◌, subst, arith, Option, Some, None, ◌⊎◌, inl, inr, nat_eq, cond}
 use Rattle.std.specs.Prelude.{nat_lt, nat_le, unwrap_or, is_some, ◌==◌, ◌||◌, if◌then◌else◌}
 use Rattle.std.specs.List.{AllByRecursion}
 use Rattle.std.proofs.lemmas.Bool.{cases_eq, ne_eqb, eq-eqb, leb-false}
-use Rattle.pitch_text.specs.declared.verb.Session.{Session}
-use Rattle.pitch_text.specs.declared.verb.Session.TheVariants.{Grp, Spin}
 use Rattle.pitch_text.specs.declared.verb.Verb.{Verb}
-use Rattle.pitch_text.specs.declared.verb.Verb.TheVariants as verbs
-use Rattle.pitch_text.specs.declared.command.Command.{Command}
-use Rattle.pitch_io.specs.declared.line.Line.{Line}
 use Rattle.pitch_messages.specs.declared.session.SessionMessage.{SessionMessage}
 use Rattle.pitch_messages.specs.declared.session.SessionMessage.TheVariants.{Login, LoginReply, GapRequest, GapReply, SpinAvailable, SpinRequest, SpinReply, SpinFinished}
 use Rattle.session_ends.specs.Answering.{Answer, no_answer, answers}
@@ -25,13 +20,14 @@ use Rattle.grp_session.specs.Asking.{gap_status, status_here, status_found, spen
 use Rattle.grp_session.specs.Budget.{Spent, how_many, this_second, this_minute, limit_reached, next_second, spending}
 use Rattle.grp_session.specs.Budget as budget
 use Rattle.grp_session.specs.Serving.{Source, grp_answer, said_answer, message_answer, request_answer}
-use Rattle.venue_core.specs.declared.error.VenueError.{VenueError}
-use Rattle.venue_core.specs.Refusals.{refusal}
-use Rattle.world_model.specs.Ends.{grp_server}
-use Rattle.world_laws.specs.Spending.{ticks_in, SpendsWithin}
-use Rattle.world_model.specs.State.{State, Connection, LooksIn, connection_of, with_connection, waiting, datagrams_on}
-use Rattle.world_model.specs.Verbs.{Done, does, state_of, commanded_on, delivered_on, numbered, connected_on, cut_on, ended, ended_where, wanted, source_of, grp_fed, server_fed, with_up, took, up_on, down_on}
+use Rattle.venue_end.specs.Came.{VenueState, answers_in, proxy_source}
+use Rattle.venue_end.specs.Servers.{proxy_setup}
+use Rattle.venue_end.specs.Sessions.{Session}
+use Rattle.world_model.specs.Ends.{venue_setup}
+use Rattle.world_model.specs.Verbs.{state_of}
 use Rattle.world_model.specs.declared.limits.Limits.{Limits}
+use Rattle.world_laws.specs.Spending.{ticks_in, SpendsWithin}
+use Rattle.world_laws.proofs.EachVerb.{all_hold, all_say}
 
 abbrev limits_of : Limits → budget.Limits
 limits_of l = record { second = l.second; minute = l.minute; day = l.day }
@@ -153,76 +149,18 @@ module _ (setup : Setup) (there : Bool) (l : Limits) (n : ℕ) where
       either (is_some (cause_of setup logged item)) one.knows (answers setup (grp_answer setup there (limits_of l)) (logged || logs_in setup.role item) one.knows views items) first
       (answered views items (logged || logs_in setup.role item) one.knows first)
 
-fed : (unit : ℕ) (l : Limits) (n : ℕ) (piece : List ℕ) (c : Connection Source) (s : State) → SpendsWithin l n s.spent → SpendsWithin l n (grp_fed unit l piece c s).spent
-fed unit l n piece c s w =
-    let source : Source = source_of l s c.server piece in
-    either (grp_server unit) true l n (is_some (closed_of (grp_server unit) c.server)) s.spent
-    (answers (grp_server unit) (grp_answer (grp_server unit) true (limits_of l)) (logged_in (grp_server unit).role c.server) s.spent source.views (new_items c.server piece)) w
-    (answered (grp_server unit) true l n source.views (new_items c.server piece) (logged_in (grp_server unit).role c.server) s.spent w)
+fed : (unit : ℕ) (l : Limits) (n : ℕ) (now : VenueState) (bytes : List ℕ) (o : Option (Session Source)) → SpendsWithin l n now.spent → SpendsWithin l n (answers_in (venue_setup unit l) now bytes o).knows
+fed unit l n now bytes None w = w
+fed unit l n now bytes (Some session) w =
+    let setup : Setup = proxy_setup (venue_setup unit l) in
+    let source : Source = proxy_source (venue_setup unit l) now session.happened bytes in
+    let items : List Heard = new_items session.happened bytes in
+    let logged : Bool = logged_in setup.role session.happened in
+    either setup true l n (is_some (closed_of setup session.happened)) now.spent (answers setup (grp_answer setup true (limits_of l)) logged now.spent source.views items) w
+    (answered setup true l n source.views items logged now.spent w)
 
--- ---- Each verb
-module _ (l : Limits) (n : ℕ) where
-  abbrev Within : State → Type 0
-  Within s = SpendsWithin l n s.spent
-
-  command_on : (o : Option VenueError) (command : Command) (s : State) → Within s → Within (commanded_on o command s).state
-  command_on None command s w = w
-  command_on (Some error) command s w = w
-
-  delivers_on : (unit : ℕ) (line : Line) (number : ℕ) (o : Option (List ℕ)) (s : State) → Within s → Within (delivered_on unit l line number o s).state
-  delivers_on unit line number None s w = w
-  delivers_on unit line number (Some datagram) s w = w
-
-  with_same : (session : Session) (g : Option (Connection (LooksIn session))) (s : State) → Within s → Within (with_connection session g s)
-  with_same Grp g s w = w
-  with_same Spin g s w = w
-
-  connects : (unit : ℕ) (session : Session) (o : Option (Connection (LooksIn session))) (s : State) → Within s → Within (connected_on unit session o s).state
-  connects unit session None s w = with_same session _ s w
-  connects unit session (Some c) s w = w
-
-  cuts : {X : Type 0} (o : Option X) (after s : State) → Within after → Within s → Within (cut_on o after s).state
-  cuts None after s a w = w
-  cuts (Some c) after s a w = a
-
-  carries_on : (b : Bool) (few many : Done) → Within few.state → Within many.state → Within (if b then few else many).state
-  carries_on true few many w a = w
-  carries_on false few many w a = a
-
-  settles : (session : Session) (b : Bool) (s : State) → Within s → Within (ended_where b session s)
-  settles session false s w = w
-  settles session true s w = with_same session None _ w
-
-  feeds : (unit : ℕ) (session : Session) (piece : List ℕ) (c : Connection (LooksIn session)) (s : State) → Within s → Within (server_fed unit l session piece c s)
-  feeds unit Grp piece c s w = fed unit l n piece c s w
-  feeds unit Spin piece c s w = w
-
-  ups : (unit : ℕ) (session : Session) (bytes : Option ℕ) (o : Option (Connection (LooksIn session))) (s : State) → Within s → Within (up_on unit l session bytes o s).state
-  ups unit session bytes None s w = w
-  ups unit session bytes (Some c) s w =
-      let m : ℕ = wanted bytes c.up in
-      carries_on (nat_lt (length (waiting c.up)) m) _ _ w (feeds unit session (take m (waiting c.up)) (with_up (took m c.up) c) s w)
-
-  downs : (unit : ℕ) (session : Session) (bytes : Option ℕ) (o : Option (Connection (LooksIn session))) (s : State) → Within s → Within (down_on unit session bytes o s).state
-  downs unit session bytes None s w = w
-  downs unit session bytes (Some c) s w = carries_on (nat_lt (length (waiting c.down)) (wanted bytes c.down)) _ _ w (settles session _ _ (with_same session _ _ w))
-
-verb_spends : (unit : ℕ) (l : Limits) (n : ℕ) (verb : Verb) (before : List Verb) (s : State) → SpendsWithin l (ticks_in before) s.spent → SpendsWithin l (ticks_in (verb ∷ before)) (does unit l verb s).state.spent
-verb_spends unit l n (verbs.Command command) before s w = command_on l (ticks_in before) (refusal s.accepted command) command s w
-verb_spends unit l n (verbs.Setup hold kept second minute day) before s w = w
-verb_spends unit l n verbs.Flush before s w = w
-verb_spends unit l n verbs.Beat before s w = w
-verb_spends unit l n (verbs.Deliver line number) before s w = delivers_on l (ticks_in before) unit line number (numbered (datagrams_on s line) number) s w
-verb_spends unit l n (verbs.Rest line) before s w = w
-verb_spends unit l n (verbs.Connect session) before s w = connects l (ticks_in before) unit session (connection_of session s) s w
-verb_spends unit l n (verbs.Cut session) before s w = cuts l (ticks_in before) (connection_of session s) (ended session s) s (with_same l (ticks_in before) session None _ w) w
-verb_spends unit l n (verbs.Up session bytes) before s w = ups l (ticks_in before) unit session bytes (connection_of session s) s w
-verb_spends unit l n (verbs.Down session bytes) before s w = downs l (ticks_in before) unit session bytes (connection_of session s) s w
-verb_spends unit l n verbs.Advertise before s w = w
-verb_spends unit l n verbs.Tick before s w = settles l (ticks_in before + 1) Spin _ _ (settles l (ticks_in before + 1) Grp _ _ (second_passes l (ticks_in before) s.spent w))
-verb_spends unit l n verbs.Show before s w = w
-verb_spends unit l n (verbs.Quote symbol) before s w = w
-
-pub spends_within : (unit : ℕ) (l : Limits) (done : List Verb) → SpendsWithin l (ticks_in done) (state_of unit l done).spent
-spends_within unit l [] = record { now_is = refl; second = omega arith; minute = omega arith; day = omega arith; past = tt }
-spends_within unit l (verb ∷ before) = verb_spends unit l 0 verb before (state_of unit l before) (spends_within unit l before)
+-- ---- All verbs
+pub spends_within : (unit : ℕ) (l : Limits) (done : List Verb) → SpendsWithin l (ticks_in done) (state_of unit l done).venue.spent
+spends_within unit l done =
+    (all_hold unit l (λ command. Unit {0}) (λ n messages advertised t. SpendsWithin l n t) (λ now. Unit {0}) (fed unit l) (λ n messages advertised t command is fine w. w) (λ n messages advertised t w. w)
+    (λ n messages advertised t w. second_passes l n t w) (λ came now c. c) done (all_say done) (record { now_is = refl; second = omega arith; minute = omega arith; day = omega arith; past = tt }) tt).0

@@ -75,7 +75,7 @@ rounds_needed H E = sum_by rounds_for (missing_runs H E)
 -- ---- What is asked of the proxy, and what a round brings
 -- the proxy keeps all messages after the client's reach
 abbrev pub KeepsMissing : Limits → State → Type 0
-KeepsMissing limits s = length s.accepted ≤ reach limits.hold s.heard + limits.kept
+KeepsMissing limits s = length s.venue.messages ≤ reach limits.hold s.client.heard + limits.kept
 
 -- in each of so many rounds a request is accepted: after the login the proxy keeps what the client
 -- lacks, and at no tick a limit is reached
@@ -83,7 +83,7 @@ pub record AreAccepted (unit : ℕ) (limits : Limits) (done : List Verb) (rounds
   pub kept : KeepsMissing limits (state_after unit limits done 0)
   pub allowed : (n : ℕ) → n < rounds → limit_reached
       (record { second = limits.second; minute = limits.minute; day = limits.day })
-      (next_second (state_after unit limits done n).spent) ≡ None
+      (next_second (state_after unit limits done n).venue.spent) ≡ None
 
 -- the limits leave so many requests, one a second, whenever those before were accepted
 pub record AreLeft (limits : Limits) (spent : Spent) (rounds : ℕ) : Type 0 where

@@ -26,15 +26,15 @@ whole unit n count second orders book is s k os =
     ∙ ap (λ (l : List Order). book_head unit n book.second (fin.len book.orders) ++ lines_of l) os
     ∙ sym (book_orders_is unit n book is)
 
-pub shown_is : (unit : ℕ) (limits : Limits) (s : State) (n : ℕ) (book : Book) (a b gap : LineCount) → n ≡ reach limits.hold s.heard → book ≡ client_book limits s → a ≡ line_count A unit s.notes → b ≡ line_count B unit s.notes → gap ≡ line_count Gap unit s.notes
+pub shown_is : (unit : ℕ) (limits : Limits) (s : State) (n : ℕ) (book : Book) (a b gap : LineCount) → n ≡ reach limits.hold s.client.heard → book ≡ client_book limits s → a ≡ line_count A unit s.notes → b ≡ line_count B unit s.notes → gap ≡ line_count Gap unit s.notes
     → book_text unit n book ++ counts_text a b gap ≡ shown_state unit limits s
 unfolding shown_state
 shown_is unit limits s n book a b gap n_is book_is a_is b_is gap_is =
     ap (λ (m : ℕ). book_text unit m book ++ counts_text a b gap) n_is
-    ∙ ap (λ (x : Book). book_text unit (reach limits.hold s.heard) x ++ counts_text a b gap) book_is
-    ∙ ap (λ (x : LineCount). book_text unit (reach limits.hold s.heard) (client_book limits s) ++ counts_text x b gap) a_is
-    ∙ ap (λ (x : LineCount). book_text unit (reach limits.hold s.heard) (client_book limits s) ++ counts_text (line_count A unit s.notes) x gap) b_is
-    ∙ ap (λ (x : LineCount). book_text unit (reach limits.hold s.heard) (client_book limits s) ++ counts_text (line_count A unit s.notes) (line_count B unit s.notes) x) gap_is
+    ∙ ap (λ (x : Book). book_text unit (reach limits.hold s.client.heard) x ++ counts_text a b gap) book_is
+    ∙ ap (λ (x : LineCount). book_text unit (reach limits.hold s.client.heard) (client_book limits s) ++ counts_text x b gap) a_is
+    ∙ ap (λ (x : LineCount). book_text unit (reach limits.hold s.client.heard) (client_book limits s) ++ counts_text (line_count A unit s.notes) x gap) b_is
+    ∙ ap (λ (x : LineCount). book_text unit (reach limits.hold s.client.heard) (client_book limits s) ++ counts_text (line_count A unit s.notes) (line_count B unit s.notes) x) gap_is
 
 -- ---- Text that was appended
 -- the text begins as it did

@@ -142,6 +142,11 @@ link_is_cut_by_silence : ends (prints_after limits [] (verbs.Cut Grp ∷ verbs.T
 unfolding reads written block_bytes blocks_of blocks_by judge messages_end fits_datagram packed_on raws_of reach_of held_count rest_of rest_by session_reads session_written stream_items login_status status_here
 link_is_cut_by_silence = refl
 
+-- and the server hears of it at once
+cut_at_the_server_too : (state_of 7 limits (verbs.Tick ∷ verbs.Tick ∷ verbs.Tick ∷ verbs.Tick ∷ verbs.Tick ∷ verbs.Connect Grp ∷ [])).venue.proxies ≡ []
+unfolding reads written block_bytes blocks_of blocks_by judge messages_end fits_datagram packed_on raws_of reach_of held_count rest_of rest_by session_reads session_written stream_items login_status status_here
+cut_at_the_server_too = refl
+
 -- the link hears the server's heartbeats and lives; the server hears nothing and closes
 server_closes_by_silence : ends (prints_after limits [] (verbs.Down Grp None ∷ verbs.Up Grp None ∷ verbs.Tick ∷ verbs.Down Grp None ∷ verbs.Tick ∷ verbs.Tick ∷ verbs.Tick ∷ verbs.Tick ∷ verbs.Connect Grp ∷ []))
     ≡ (outcome.Carried 0, Silent) ∷ (outcome.Carried 62, Silent) ∷ (outcome.Ticked, Silent) ∷ (outcome.Carried 32, Silent) ∷ (outcome.Ticked, Silent) ∷ (outcome.Ticked, Silent) ∷ (outcome.Ticked, Silent) ∷ (outcome.Ticked, Silent) ∷ (outcome.Opened, Silent) ∷ []
@@ -176,7 +181,7 @@ login_of_the_proxy = refl
 -- ---- A quote
 -- the client heard the venue's one message, which adds an order to buy 100 IBM at 10.0000
 abbrev buying : State
-buying = record start { accepted = order ∷ []; heard = Message 1 order ∷ [] }
+buying = record start { venue = record start.venue { messages = order ∷ [] }; client = record start.client { heard = Message 1 order ∷ [] } }
 
 one_entry : finite.entries one_sold ≡ (5, sold) ∷ []
 one_entry = finite.entries-insert nat_cmp_total no_orders 5 sold ∙ ap (finite.put nat_cmp 5 sold) (no_entries no_orders (finite.len-empty nat_cmp Order))

@@ -1,13 +1,9 @@
-pub mod Witness
-pub mod HeardBlocks
+pub mod Sounding
+mod HeardBlocks
 mod Booking
-pub mod Carrying
-pub mod SpinWitness
-pub mod SpinCarrying
-pub mod Pumping
+mod Marks
 mod Acting
-pub mod Sessions
-pub mod SpinActing
-pub mod Ticking
+mod Sessions
+mod Pumping
 mod Examples
 mod PrintedLines

@@ -1,22 +1,21 @@
--- A spin server that is called until its image is sent.
-use Rattle.std.proofs.Common.{◌≡◌, ℕ, suc, ◌+◌, ◌&&◌, Bool, true, false, cond, Option, None, Some, is_some, is_none, List, [], ◌∷◌, ◌++◌, length, sym, ap, ◌∙◌, subst, arith}
-use Rattle.session_ends.specs.Closing.{Setup, or_else, closed_of}
-use Rattle.session_ends.specs.Events.{Event, Pumped}
+-- A Spin Server that is asked for blocks until its image is sent.
+use Rattle.std.proofs.Common.{◌≡◌, ℕ, suc, ◌+◌, ◌&&◌, Bool, true, false, cond, Option, None, Some, is_some, is_none, List, [], ◌∷◌, ◌++◌, length, replicate, refl, sym, ap, ◌∙◌, subst, arith}
+use Rattle.session_ends.specs.Closing.{closed_of, or_else}
+use Rattle.session_ends.specs.Events.{Pumped}
 use Rattle.session_ends.specs.declared.closed.Closed.{Closed}
 use Rattle.spin_server.specs.Served.{Served}
-use Rattle.spin_server.specs.Serving.{Serving, Spin, SpinStands, spin_sends, running_spin, runs, blocks_left, spin_left, pumped}
-use Rattle.world_model.specs.Connections.{IsPipe}
-use Rattle.world_model.specs.layers.Carried.{IsServed}
-use Rattle.world_model.specs.Ends.{spin_server}
-use Rattle.world_model.specs.State.{Connection}
-use Rattle.world_model.specs.Verbs.{put_in, pumps, pumped_times}
-use Rattle.world_model.proofs.Carrying.{piped_put}
-
--- some calls were made, and if one more is to be made, so many in all
-pub record Pumping (unit : ℕ) (k : Connection (List Served)) (server : Serving) (bytes : List ℕ) (more : Bool) : Type 0 where
-  pub calls : ℕ
-  pub now : IsServed server bytes unit (pumped_times unit calls k)
-  pub rest : calls + cond more (pumps unit (pumped_times unit calls k).server) 0 ≡ pumps unit k.server
+use Rattle.spin_server.specs.Serving.{Spin, blocks_left, pumped, running_spin, spin_left}
+use Rattle.venue_end.specs.Came.{SpinPumped, VenueCame, venue_after}
+use Rattle.venue_end.specs.Feeding.{runs_on}
+use Rattle.venue_end.specs.Servers.{spin_says, spin_setup}
+use Rattle.venue_end.specs.Sessions.{Session, happens_at, session_of}
+use Rattle.venue_end.specs.Stands.{Comes, OfVenue, VenueStands}
+use Rattle.venue_end.specs.declared.setup.VenueSetup.{VenueSetup}
+use Rattle.venue_end.specs.declared.venue.VenueEnd.{VenueEnd}
+use Rattle.served_laws.proofs.Sessions.{became, one_becomes}
+use Rattle.world_model.specs.Ends.{the_session}
+use Rattle.world_model.specs.Verbs.{pumps}
+use Rattle.world_model.specs.layers.Feeding.{asked_out}
 
 -- ---- How many calls are left
 one_less : (closed : Option Closed) (spin : Option Spin)
@@ -31,39 +30,43 @@ one_less None (Some spin) = by spin.left
     by [] = omega arith
     by (datagram ∷ datagrams) = omega arith
 
-one_call : (unit : ℕ) (es : List (Event (List Served))) → pumps unit es ≡ 1 + cond (runs (spin_server unit) (Pumped ∷ es)) (pumps unit (Pumped ∷ es)) 0
-one_call unit es = one_less (closed_of (spin_server unit) es) (running_spin (spin_server unit) es)
+module _ (s : VenueSetup) where
+  abbrev asked : Session (List Served) → Session (List Served)
+  asked session = happens_at (spin_says s) Pumped session
 
--- ---- A loop of calls
-pub pumping_begins : (unit : ℕ) (k : Connection (List Served)) (server : Serving) (bytes : List ℕ) → IsServed server bytes unit k → Pumping unit k server bytes true
-pumping_begins unit k server bytes is = record { calls = 0; now = is; rest = omega arith }
+  one_call : (o : Option (Session (List Served))) → pumps s o ≡ 1 + cond (runs_on s o) (pumps s (became asked (λ k. refl) o)) 0
+  one_call None = refl
+  one_call (Some session) = one_less (closed_of (spin_setup s) session.happened) (running_spin (spin_setup s) session.happened)
 
-pub pumping_on : (unit : ℕ) (k : Connection (List Served)) (server server' : Serving) (bytes bytes' : List ℕ) (more : Bool) → Pumping unit k server bytes true
-    → server'.end.setup ≡ server.end.setup
-    → ((es : List (Event (List Served))) → SpinStands server es → SpinStands server' (Pumped ∷ es))
-    → ((es : List (Event (List Served))) → SpinStands server es → bytes' ≡ bytes ++ spin_sends server.end.setup Pumped es)
-    → ((es : List (Event (List Served))) → SpinStands server es → more ≡ runs server.end.setup (Pumped ∷ es))
-    → Pumping unit k server' bytes' more
-pumping_on unit k server server' bytes bytes' more p still stands says goes =
-    let c : Connection (List Served) = pumped_times unit p.calls k in
-    let es : List (Event (List Served)) = c.server in
-    let made : server.end.setup ≡ spin_server unit = p.now.made in
-    let said : bytes' ≡ bytes ++ spin_sends (spin_server unit) Pumped es = says es p.now.stands ∙ ap (λ (s : Setup). bytes ++ spin_sends s Pumped es) made in
-    let more_is : more ≡ runs (spin_server unit) (Pumped ∷ es) = goes es p.now.stands ∙ ap (λ (s : Setup). runs s (Pumped ∷ es)) made in
-    let one : pumps unit es ≡ 1 + cond more (pumps unit (Pumped ∷ es)) 0 = one_call unit es ∙ ap (λ (b : Bool). 1 + cond b (pumps unit (Pumped ∷ es)) 0) (sym more_is) in
-    let before : p.calls + pumps unit es ≡ pumps unit k.server = p.rest in
-    record {
-      calls = suc p.calls;
-      now = record {
-        made = still ∙ made;
-        stands = stands es p.now.stands;
-        down = subst (λ (b : List ℕ). IsPipe b (put_in (spin_sends (spin_server unit) Pumped es) c.down)) (sym said) (piped_put bytes (spin_sends (spin_server unit) Pumped es) c.down p.now.down);
-      };
-      rest = omega (arith, one, before);
-    }
+  -- ---- A loop of calls
+  module _ (before : List VenueCame) where
+    abbrev calls_then : ℕ → List VenueCame
+    calls_then calls = replicate calls (SpinPumped the_session) ++ before
 
-pub pumping_ends : (unit : ℕ) (k : Connection (List Served)) (server : Serving) (bytes : List ℕ) → Pumping unit k server bytes false → IsServed server bytes unit (pumped_times unit (pumps unit k.server) k)
-pumping_ends unit k server bytes p =
-    let all : p.calls + 0 ≡ pumps unit k.server = p.rest in
-    let calls : p.calls ≡ pumps unit k.server = omega (arith, all) in
-    subst (λ (n : ℕ). IsServed server bytes unit (pumped_times unit n k)) calls p.now
+    abbrev left_then : ℕ → ℕ
+    left_then calls = pumps s (session_of the_session (venue_after s (calls_then calls)).spins)
+
+    -- some calls were made, and if one more is to be made, so many in all
+    pub record Pumping (now : VenueEnd) (more : Bool) : Type 0 where
+      pub calls : ℕ
+      pub stands : VenueStands s now (calls_then calls)
+      pub rest : calls + cond more (left_then calls) 0 ≡ left_then 0
+
+    pub pumping_begins : (e : VenueEnd) → VenueStands s e before → Pumping e true
+    pumping_begins e is = record { calls = 0; stands = is; rest = omega arith }
+
+    pub pumping_on : (old new : VenueEnd) (more : Bool) → Pumping old true → Comes old new (SpinPumped the_session) → OfVenue old (λ v came. more ≡ runs_on v (session_of the_session (venue_after v came).spins)) → Pumping new more
+    pumping_on old new more p comes goes =
+        let now : List VenueCame = calls_then p.calls in
+        let o : Option (Session (List Served)) = session_of the_session (venue_after s now).spins in
+        let there : session_of the_session (venue_after s (calls_then (suc p.calls))).spins ≡ became asked (λ k. refl) o = one_becomes asked (λ k. refl) the_session (venue_after s now).spins in
+        let one : left_then p.calls ≡ 1 + cond more (left_then (suc p.calls)) 0 =
+        one_call o ∙ ap (λ (x : Option (Session (List Served))). 1 + cond (runs_on s o) (pumps s x) 0) (sym there) ∙ ap (λ (b : Bool). 1 + cond b (left_then (suc p.calls)) 0) (sym (goes s now p.stands)) in
+        let before_it : p.calls + left_then p.calls ≡ left_then 0 = p.rest in
+        record { calls = suc p.calls; stands = comes s now p.stands; rest = omega (arith, one, before_it) }
+
+    pub pumping_ends : (e : VenueEnd) → Pumping e false → VenueStands s e (asked_out s before)
+    pumping_ends e p =
+        let all : p.calls + 0 ≡ left_then 0 = p.rest in
+        let calls : p.calls ≡ left_then 0 = omega (arith, all) in
+        subst (λ (n : ℕ). VenueStands s e (calls_then n)) calls p.stands

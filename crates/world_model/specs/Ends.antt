@@ -1,48 +1,68 @@
--- The four ends of a unit's two sessions: how they are made, and what each sends at an event after
--- others, which stand newest first.
-use Rattle.std.specs.Prelude.{ℕ, false, List, [], ◌∷◌, codes}
+-- The two ends of a unit's world: how they are made, and what comes to each by a session.
+use Rattle.std.specs.Prelude.{ℕ, Bool, List, codes, is_some}
 use Rattle.pitch_text.specs.declared.verb.Session.{Session}
 use Rattle.pitch_text.specs.declared.verb.Session.TheVariants.{Grp, Spin}
-use Rattle.session_ends.specs.Closing.{Setup}
-use Rattle.session_ends.specs.Events.{Event, Ticked}
-use Rattle.session_ends.specs.Sending.{sent_at_tick}
 use Rattle.session_ends.specs.declared.account.Account.{Account}
-use Rattle.session_ends.specs.declared.role.Role.TheVariants as roles
-use Rattle.grp_session.specs.Serving.{Source, grp_sends}
-use Rattle.spin_server.specs.Served.{Served}
-use Rattle.spin_path.specs.Paths.{says_at}
-use Rattle.client_end.specs.Links.{gap_link, spin_link}
-use Rattle.world_model.specs.State.{LooksIn}
+use Rattle.client_end.specs.Came.{EndSetup, EndState}
+use Rattle.sending_end.specs.declared.session.Session.{Session as LinkSession}
+use Rattle.sending_end.specs.declared.session.Session.TheVariants.{Proxy, SpinServer}
+use Rattle.sending_end.specs.Waiting.{link_of}
+use Rattle.venue_end.specs.Came.{VenueCame, VenueState, ProxyMade, ProxyTook, ProxyPut, ProxyCut}
+use Rattle.venue_end.specs.Came.{SpinMade, SpinTook, SpinPut, SpinCut}
+use Rattle.venue_end.specs.Sessions.{session_of, waiting_in}
+use Rattle.venue_end.specs.declared.setup.VenueSetup.{VenueSetup}
+use Rattle.world_model.specs.declared.limits.Limits.{Limits}
 
 -- ---- How they are made
 -- the one account that both servers know, with which both links log in
 abbrev pub the_account : Account
 the_account = record { sub = codes "0001"; user = codes "FEED"; password = codes "PITCH     " }
 
-abbrev pub grp_server : ℕ → Setup
-grp_server unit =
-    record { role = roles.GrpServer; unit = unit; accounts = the_account ∷ []; in_use = false }
+abbrev pub venue_setup : ℕ → Limits → VenueSetup
+venue_setup unit limits = record {
+  unit = unit;
+  kept = limits.kept;
+  account = the_account;
+  second = limits.second;
+  minute = limits.minute;
+  day = limits.day;
+}
 
-abbrev pub spin_server : ℕ → Setup
-spin_server unit =
-    record { role = roles.SpinServer; unit = unit; accounts = the_account ∷ []; in_use = false }
+abbrev pub client_setup : ℕ → Limits → EndSetup
+client_setup unit limits =
+    record { unit = unit; account = the_account; hold = limits.hold }
 
--- the client's end of a session
-abbrev pub link_of : ℕ → Session → Setup
-link_of unit Grp = gap_link
-link_of unit Spin = spin_link unit
+-- ---- A session at the venue's end
+-- each server has one session at most, of this number
+abbrev pub the_session : ℕ
+the_session = 0
 
--- ---- What they send
--- at a tick a heartbeat, where one is due
-abbrev pub grp_says : ℕ → Event Source → List (Event Source) → List ℕ
-grp_says unit Ticked before = sent_at_tick (grp_sends (grp_server unit)) (grp_server unit) before
-grp_says unit event before = grp_sends (grp_server unit) event before
+abbrev pub server_made : Session → VenueCame
+server_made Grp = ProxyMade the_session
+server_made Spin = SpinMade the_session
 
-abbrev pub spin_says : ℕ → Event (List Served) → List (Event (List Served)) → List ℕ
-spin_says unit event before = says_at (spin_server unit) event before
+abbrev pub server_took : Session → List ℕ → VenueCame
+server_took Grp bytes = ProxyTook the_session bytes
+server_took Spin bytes = SpinTook the_session bytes
 
--- what the server of a session sends at an event
-abbrev pub server_says : ℕ → (session : Session)
-    → Event (LooksIn session) → List (Event (LooksIn session)) → List ℕ
-server_says unit Grp event before = grp_says unit event before
-server_says unit Spin event before = spin_says unit event before
+abbrev pub server_put : Session → ℕ → VenueCame
+server_put Grp count = ProxyPut the_session count
+server_put Spin count = SpinPut the_session count
+
+abbrev pub server_cut : Session → VenueCame
+server_cut Grp = ProxyCut the_session
+server_cut Spin = SpinCut the_session
+
+-- what the server said and was not put yet
+abbrev pub server_waits : Session → VenueState → List ℕ
+server_waits Grp now = waiting_in (session_of the_session now.proxies)
+server_waits Spin now = waiting_in (session_of the_session now.spins)
+
+-- ---- The same session at the client's end
+abbrev pub at_client : Session → LinkSession
+at_client Grp = Proxy
+at_client Spin = SpinServer
+
+-- a connection stands: the client's end has a link of it
+abbrev pub stands : Session → EndState → Bool
+stands session now = is_some (link_of (at_client session) now)

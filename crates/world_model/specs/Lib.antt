@@ -1,9 +1,7 @@
-pub mod State
 pub mod Ends
+pub mod State
 pub mod Verbs
 pub mod Printed
-pub mod Witness
 pub mod Sound
-pub mod Connections
 pub mod Stands
 pub mod layers

@@ -38,8 +38,9 @@ printed unit limits verb s =
     let d = does unit limits verb s in
     record {
       outcome = d.outcome;
-      status = status_of limits.hold d.state.heard;
-      overflow = overflowed limits.hold (length d.state.heard - length s.heard) d.state.heard;
+      status = status_of limits.hold d.state.client.heard;
+      overflow = overflowed limits.hold
+          (length d.state.client.heard - length s.client.heard) d.state.client.heard;
     }
 
 -- ---- Its text
@@ -97,7 +98,7 @@ counts_text a b gap = codes "lines a "
 -- the client's book, and the counts of the lines
 unfoldable pub shown_state : ℕ → Limits → State → List ℕ
 shown_state unit limits s =
-    book_text unit (reach limits.hold s.heard) (client_book limits s) ++ counts_text
+    book_text unit (reach limits.hold s.client.heard) (client_book limits s) ++ counts_text
     (line_count A unit s.notes) (line_count B unit s.notes) (line_count Gap unit s.notes)
 
 -- a verb prints its line, and `show` the book besides

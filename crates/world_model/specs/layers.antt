@@ -1,4 +1,4 @@
 -- What only the layers tell one another: no top call needs it.
-pub mod Carried
+pub mod Feeding
 pub mod Hearing
 pub mod Steps

@@ -1,4 +1,4 @@
-//! What the client hears of datagrams.
+//! What the client's end hears of datagrams.
 
 ghost use Rattle.std.specs.Prelude.{◌≡◌, ◌||◌, ◌∷◌, [], IfOk};
 ghost use Rattle.std.specs.List.{flat_map};
@@ -7,11 +7,11 @@ ghost use Rattle.heard_items.specs.Datagrams.{block_messages};
 ghost use Rattle.unit_packets.specs.Packing.{bytes_in};
 ghost use Rattle.world_model.specs.layers.Hearing.{HearsBlocks};
 
-use client_core::UnitClient;
 use line_arbiter::Arbiter;
 use pitch_fields::OutOfMemory;
 use pitch_io::Line;
 use pitch_messages::ByteList;
+use sending_end::SendingEnd;
 use unit_packets::{BlockView, Blocks};
 
 // How many messages of a block count: none of an unsequenced one.
@@ -26,28 +26,28 @@ fn messages_of(block: &BlockView<'_>) -> u32
     }
 }
 
-// The client hears a block that comes on a line. Answers whether the hold overflowed.
+// The client's end hears a block that comes on a line. Answers whether the hold overflowed.
 fn hear_block(
     unit: u8,
     line: Line,
-    client: &mut UnitClient,
+    client: &mut SendingEnd,
     arbiter: &mut Arbiter,
     block: &BlockView<'_>,
 ) -> Result<bool, OutOfMemory>
     ensures { IfOk result (λ overflow. HearsBlocks
         unit line client.old client.new arbiter.old arbiter.new (block.now ∷ []) overflow) }
 {
-    let change = client.hear_block(block.header().sequence, block.raws(), &mut ())?;
+    let change = client.hear_block(block)?;
     arbiter.note(line, unit, messages_of(block), change.fresh);
     Ok(change.overflows > 0)
 }
 
-/// The client hears the blocks of a datagram that comes on a line. Answers whether the hold
+/// The client's end hears the blocks of a datagram that comes on a line. Answers whether the hold
 /// overflowed.
 pub(crate) fn hear_datagram(
     unit: u8,
     line: Line,
-    client: &mut UnitClient,
+    client: &mut SendingEnd,
     arbiter: &mut Arbiter,
     datagram: &[u8],
 ) -> Result<bool, OutOfMemory>
@@ -62,12 +62,12 @@ pub(crate) fn hear_datagram(
     Ok(overflow)
 }
 
-/// The client hears datagrams that come on a line, one after another. Answers whether the hold
-/// overflowed.
+/// The client's end hears datagrams that come on a line, one after another. Answers whether the
+/// hold overflowed.
 pub(crate) fn hear_all(
     unit: u8,
     line: Line,
-    client: &mut UnitClient,
+    client: &mut SendingEnd,
     arbiter: &mut Arbiter,
     datagrams: &[ByteList],
 ) -> Result<bool, OutOfMemory>

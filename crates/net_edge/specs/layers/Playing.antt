@@ -23,17 +23,17 @@ use Rattle.grp_session.specs.Serving.{Source, ProxyStands, proxy_answer}
 use Rattle.client_core.specs.declared.client.UnitClient.{UnitClient}
 use Rattle.client_links.specs.Linking.{Lookups, NoLookup, LinkStands, link_tells}
 use Rattle.spin_path.specs.Paths.{heard_all}
-use Rattle.world_model.specs.Verbs.{down_of}
 use Rattle.client_end.specs.Links.{gap_link, spin_link}
 use Rattle.client_end.specs.Stands.{ClientHeard}
-use Rattle.world_model.specs.Ends.{grp_server, spin_server}
-use Rattle.world_model.specs.State.{Connection, Pipe, LooksIn}
+use Rattle.venue_end.specs.Servers.{proxy_setup, spin_setup}
+use Rattle.net_edge.specs.Connection.{Connection, LooksIn}
 use Rattle.net_edge.specs.Acting.{scene_of, is_group_open, source_at, sent_on, end_puts, taken_at}
 use Rattle.net_edge.specs.Acting.{all_tick}
-use Rattle.net_edge.specs.Due.{Setting, demo_unit, hold_limit, request_limits, beat, due, is_tenth}
-use Rattle.net_edge.specs.Due.{ticks}
+use Rattle.net_edge.specs.Due.{Setting, demo_unit, demo_setup, hold_limit, request_limits}
+use Rattle.net_edge.specs.Due.{beat, due, is_tenth, ticks}
 use Rattle.net_edge.specs.Scene.{Scene, OnLine, AtEnd, line_in, with_line, at_end, said_at}
-use Rattle.net_edge.specs.layers.Sessions.{end_of, session_setup, with_client_end}
+use Rattle.net_edge.specs.layers.Sessions.{end_of, session_setup, down_of}
+use Rattle.net_edge.specs.layers.Sessions.{with_client_end}
 use Rattle.net_edge.specs.Steps.{Step, calls_of}
 use Rattle.net_edge.specs.Breaking.{Breaks}
 use Rattle.net_edge.specs.Turns.{AreSteps}
@@ -102,14 +102,14 @@ BreaksRun before after error =
 -- ---- The ends
 -- the proxy stands for what happened to it, and its budget for what it accepted
 pub record ProxyHas (proxy : Proxy) (events : List (Event Source)) (spent : Spent) : Type 0 where
-  pub made : proxy.server.setup ≡ grp_server demo_unit
+  pub made : proxy.server.setup ≡ proxy_setup demo_setup
   pub stands : ProxyStands proxy.server events
   pub limits_are : proxy.budget.limits ≡ request_limits
   pub counted : Counted proxy.budget spent
 
 -- the Spin Server stands for what happened to it
 pub record SpinHas (server : Serving) (events : List (Event (List Served))) : Type 0 where
-  pub made : server.end.setup ≡ spin_server demo_unit
+  pub made : server.end.setup ≡ spin_setup demo_setup
   pub stands : SpinStands server events
 
 -- a link stands for what happened to it
@@ -134,7 +134,8 @@ pub record HearsOn (s : Setting) (base : List Call) (calls : Option (List Call))
 
 -- a scene with another end of the proxy: the end, what it says, what happened at it, and what it
 -- accepted; and with the datagrams that it had for the gap line, which were sent
-abbrev pub with_proxy : AtEnd → Pipe → List (Event Source) → Spent → List (List ℕ) → Scene → Scene
+abbrev pub with_proxy : AtEnd
+    → List ℕ → List (Event Source) → Spent → List (List ℕ) → Scene → Scene
 with_proxy end down server spent lines now =
     record now {
       grp_server = end;
@@ -149,19 +150,19 @@ pub record ProxyServes (s : Setting) (base : List Call) (calls : Option (List Ca
     (proxy : Proxy) (answers : List NetTaken) (ended : Bool) (now : Scene) : Type 0 where
   pub end : AtEnd
   pub server : List (Event Source)
-  pub down : Pipe
+  pub down : List ℕ
   pub spent : Spent
   pub lines : List (List ℕ)
   pub answers_are : end.answers ≡ answers
   pub ended_is : end.ended ≡ ended
-  pub put_is : end.put ≡ down.put
+  pub put_is : end.put ≡ down
   pub has : ProxyHas proxy server spent
   pub plays : Plays s base calls (with_proxy end down server spent lines now)
 
 -- what the proxy answers to bytes
 abbrev pub proxy_said : Setting → List ℕ → Scene → Answer Spent
 proxy_said s bytes now =
-    proxy_answer (grp_server demo_unit) now.grp.server bytes (source_at s bytes now)
+    proxy_answer (proxy_setup demo_setup) now.grp.server bytes (source_at s bytes now)
 
 -- bytes were fed to the proxy, and this is what it says of them
 pub record ProxyFed (s : Setting) (bytes : List ℕ)
@@ -184,10 +185,10 @@ pub record SpinServes (s : Setting) (base : List Call) (calls : Option (List Cal
     (spin : Serving) (answers : List NetTaken) (ended : Bool) (now : Scene) : Type 0 where
   pub end : AtEnd
   pub server : List (Event (List Served))
-  pub down : Pipe
+  pub down : List ℕ
   pub answers_are : end.answers ≡ answers
   pub ended_is : end.ended ≡ ended
-  pub put_is : end.put ≡ down.put
+  pub put_is : end.put ≡ down
   pub has : SpinHas spin server
   pub plays : Plays s base calls (record now {
     spin_server = end;
@@ -198,7 +199,7 @@ pub record SpinServes (s : Setting) (base : List Call) (calls : Option (List Cal
 pub record ServerSays {X : Type 0} (Has : List (Event X) → Type 0)
     (said : List ℕ) (before after : Connection X) : Type 0 where
   pub has : Has after.server
-  pub says : after.down.put ≡ before.down.put ++ said
+  pub says : after.down ≡ before.down ++ said
   pub up_is : after.up ≡ before.up
   pub link_is : after.link ≡ before.link
 
@@ -233,12 +234,12 @@ pub record HearsLink (session : Session) (s : Setting) (base : List Call)
     (answers : List NetTaken) (cut : Bool) (now : Scene) : Type 0 where
   pub end : AtEnd
   pub events : List (Event Lookups)
-  pub up : Pipe
+  pub up : List ℕ
   pub heard : List Entry
   pub answers_are : end.answers ≡ answers
   pub ended_is : end.ended ≡ true → cut ≡ true
   pub put_is : end.put ≡ (at_end (end_of session) now).put
-  pub up_is : up.put ≡ said_at (end_of session) now
+  pub up_is : up ≡ said_at (end_of session) now
   pub link_has : LinkHas (session_setup session) link events
   pub has : ClientHas client heard
   pub plays : Plays s base calls (with_client_end session end up events cut heard now)
@@ -247,7 +248,7 @@ pub record HearsLink (session : Session) (s : Setting) (base : List Call)
 pub record LinkSays {X : Type 0}
     (setup : Setup) (link : Ending) (said : List ℕ) (before after : Connection X) : Type 0 where
   pub link_has : LinkHas setup link after.link
-  pub says : after.up.put ≡ before.up.put ++ said
+  pub says : after.up ≡ before.up ++ said
   pub down_is : after.down ≡ before.down
   pub server_is : after.server ≡ before.server
 
@@ -300,11 +301,11 @@ pub record EndsHave (ends : Ends) (now : Scene) : Type 0 where
   pub spin : SpinHas ends.spin now.spin.server
   pub client : ClientHas ends.client now.heard
   pub gap_link : LinkAt gap_link
-      ends.gap_link ends.grp_cut now.grp_client now.grp_cut now.grp.link now.grp.up.put
+      ends.gap_link ends.grp_cut now.grp_client now.grp_cut now.grp.link now.grp.up
   pub spin_link : LinkAt (spin_link demo_unit)
-      ends.spin_link ends.spin_cut now.spin_client now.spin_cut now.spin.link now.spin.up.put
-  pub grp_server : ServerAt ends.grp_ended now.grp_server now.grp.down.put
-  pub spin_server : ServerAt ends.spin_ended now.spin_server now.spin.down.put
+      ends.spin_link ends.spin_cut now.spin_client now.spin_cut now.spin.link now.spin.up
+  pub grp_server : ServerAt ends.grp_ended now.grp_server now.grp.down
+  pub spin_server : ServerAt ends.spin_ended now.spin_server now.spin.down
   -- all that the proxy had for the gap line was sent
   pub replayed : now.gap.sent ≡ now.replayed
 

@@ -1,5 +1,5 @@
 use Rattle.session_ends.specs.Events.{Ticked}
-use Rattle.world_model.specs.Verbs.{at_link}
+use Rattle.net_edge.specs.Connection.{at_link}
 use Rattle.net_edge.specs.layers.Sessions.{session_setup}
 use Rattle.net_edge.proofs.Saying.{link_silent, link_says_at, stands_so}
 use Rattle.net_edge.proofs.links.say_ticked.Goals as goal

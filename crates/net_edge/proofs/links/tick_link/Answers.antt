@@ -1,6 +1,6 @@
 use Rattle.session_ends.specs.Events.{Ticked}
 use Rattle.pitch_model.proofs.Results.{at_exit}
-use Rattle.world_model.specs.Verbs.{at_link}
+use Rattle.net_edge.specs.Connection.{at_link}
 use Rattle.net_edge.specs.Acting.{where_stands}
 use Rattle.net_edge.specs.layers.Sessions.{session_setup}
 use Rattle.net_edge.proofs.Linking.{said_put}

@@ -20,4 +20,4 @@ returns c =
     let tracks = c.client-client.ensures.tracks unit limits done is.1 in
     let keeps = c.client-client.ensures.keeps unit limits done is.1 in
     line ∙ ap (λ (t : List ℕ). old ++ t)
-    (line_of unit limits s c.status.result c.len.result c.shares.result c.book-book.result.now.book (c.status.ensures limits.hold s.heard tracks) (c.book-book.ensures.book limits.hold s.heard s.accepted tracks keeps) c.len.ensures.count c.shares.ensures)) c.append_unit_line.ensures.ok
+    (line_of unit limits s c.status.result c.len.result c.shares.result c.book-book.result.now.book (c.status.ensures limits.hold s.client.heard tracks) (c.book-book.ensures.book limits.hold s.client.heard s.venue.messages tracks keeps) c.len.ensures.count c.shares.ensures)) c.append_unit_line.ensures.ok

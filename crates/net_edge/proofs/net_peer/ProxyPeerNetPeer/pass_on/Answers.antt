@@ -3,7 +3,7 @@ use Rattle.pitch_messages.specs.declared.session.SessionMessage.TheVariants.{Gap
 use Rattle.pitch_model.specs.declared.ask.Ask.{Ask}
 use Rattle.session_ends.specs.Events.{Asked}
 use Rattle.client_end.specs.Links.{gap_link}
-use Rattle.world_model.specs.Verbs.{at_link}
+use Rattle.net_edge.specs.Connection.{at_link}
 use Rattle.net_edge.specs.Acting.{gap_asked}
 use Rattle.net_edge.proofs.Linking.{asked_as}
 use Rattle.net_edge.proofs.Saying.{link_says_at, link_unasked}

@@ -3,7 +3,7 @@ use Rattle.std.proofs.Common.{Option, Some, ap, ◌∙◌}
 use Rattle.pitch_messages.specs.declared.session.SessionMessage.TheVariants.{SpinRequest}
 use Rattle.pitch_model.specs.declared.ask.Ask.{Ask}
 use Rattle.session_ends.specs.Events.{Asked}
-use Rattle.world_model.specs.Verbs.{at_link}
+use Rattle.net_edge.specs.Connection.{at_link}
 use Rattle.net_edge.specs.Acting.{image_asked}
 use Rattle.net_edge.specs.layers.Sessions.{session_setup}
 use Rattle.net_edge.proofs.Linking.{asked_as}

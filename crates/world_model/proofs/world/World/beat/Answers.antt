@@ -1,8 +1,17 @@
-use Rattle.world_model.specs.Connections.{journal_of}
-use Rattle.world_model.proofs.Acting.{acts_beaten}
+use Rattle.std.proofs.Common.{◌≡◌, ℕ, List, [], ◌∷◌, ◌++◌, ap, ◌∙◌, refl}
+use Rattle.pitch_messages.specs.Room.{Roomy}
+use Rattle.pitch_text.specs.declared.verb.Verb.TheVariants as verbs
+use Rattle.unit_packets.specs.Packing.{bytes_in}
+use Rattle.venue_end.specs.Came.{Beaten, on_lines}
+use Rattle.world_model.proofs.Acting.{acts_sends, bytes_more, seen_venue}
+use Rattle.world_model.proofs.Sounding.{does_sound}
 use Rattle.world_model.proofs.world.World.beat.Goals as goal
 
 pub returns : goal.returns
 returns c = λ s has.
-    acts_beaten c.args.self.now c.push.new.self c.in_ok-of_bytes.field-0 c.beat-beat.result c.calm.result s has c.in_ok-push.ensures.ok c.in_ok-of_bytes.ensures
-    (c.beat-beat.ensures.bytes (journal_of c.args.self.now.unit c.args.self.now.limits s) has.market) (c.beat-beat.ensures.piece (journal_of c.args.self.now.unit c.args.self.now.limits s) has.market) c.calm.ensures
+    let w = c.args.self.now in
+    let sent : List (List ℕ) = bytes_in w.sent.items in
+    acts_sends w s has w.venue Beaten has.venue c.push.new.self c.calm.result 1
+    (ap (λ (ls : List (Roomy ℕ)). bytes_in ls) c.in_ok-push.ensures.ok ∙ bytes_more w.sent.items c.in_ok-of_bytes.field-0 ∙ ap (λ (bytes : List ℕ). sent ++ bytes ∷ []) c.in_ok-of_bytes.ensures
+    ∙ ap (λ (ds : List (List ℕ)). sent ++ ds) (seen_venue w s has (λ v now. c.beat-beat.result ∷ [] ≡ on_lines v Beaten now) c.beat-beat.ensures.bytes))
+    refl (does_sound w.unit w.limits verbs.Beat s has.sound) c.calm.ensures

@@ -1,9 +1,12 @@
-use Rattle.world_model.proofs.Sessions.{opens_in}
-use Rattle.pitch_text.specs.declared.verb.Session.TheVariants.{Grp, Spin}
+use Rattle.std.proofs.Common.{subst}
+use Rattle.std.proofs.lemmas.Result.{on_ok_weaker}
+use Rattle.sending_end.specs.Waiting.{made}
+use Rattle.sending_end.specs.Stands.{Passes}
+use Rattle.sending_end.specs.declared.session.Session.{Session}
+use Rattle.world_model.proofs.Sessions.{passes_opened}
 use Rattle.world_model.proofs.world.World.open.Goals as goal
 
-pub returns-in_ok-c-in-Grp : goal.returns-in_ok-c-in-Grp
-returns-in_ok-c-in-Grp c = opens_in c.args.session Grp c.in-Grp.is c.args.self.now c.replace.new.self c.in_ok-c-in-Grp.c c.replace.ensures.after c.in_ok-c-in-Grp.ensures
-
-pub returns-in_ok-c-in-Spin : goal.returns-in_ok-c-in-Spin
-returns-in_ok-c-in-Spin c = opens_in c.args.session Spin c.in-Spin.is c.args.self.now c.replace-in-Spin.new.self c.in_ok-c-in-Spin.c c.replace-in-Spin.ensures.after c.in_ok-c-in-Spin.ensures
+pub returns : goal.returns
+returns c = on_ok_weaker c.connected.result (λ passes s has.
+    passes_opened c.args.session c.args.self.now s has c.connect.new.venue c.connected.new.self c.in_ok-connect.ensures
+    (subst (λ (session : Session). Passes c.args.self.now.client c.connected.new.self (made session)) c.at_client.ensures passes)) c.connected.ensures.passes
