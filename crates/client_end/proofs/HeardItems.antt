@@ -7,14 +7,13 @@ use Rattle.pitch_fields.specs.Fields.{AreBytes}
 use Rattle.pitch_model.specs.History.{Entry, Raw}
 use Rattle.pitch_model.specs.Honest.{Honest}
 use Rattle.pitch_model.specs.Image.{image}
-use Rattle.heard_items.specs.Heard.{heard}
+use Rattle.heard_items.specs.Heard.{heard, heard_all}
 use Rattle.heard_items.specs.declared.item.Item.{Item}
 use Rattle.heard_items.specs.declared.item.Item.TheVariants as item
 use Rattle.client_core.specs.Tracks.{Tracks, Keeps}
 use Rattle.client_core.specs.Client.{IsAsBefore}
 use Rattle.client_core.specs.layers.Items.{IsImage}
 use Rattle.client_core.specs.declared.client.UnitClient.{UnitClient}
-use Rattle.spin_path.specs.Paths.{heard_all}
 use Rattle.client_end.specs.layers.Hearing.{IsTold, HearsItems}
 
 abbrev pub AreTold : List Item → Type 0

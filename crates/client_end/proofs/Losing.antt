@@ -12,7 +12,8 @@ use Rattle.client_links.specs.Linking.{Lookups}
 use Rattle.client_end.specs.Links.{gap_link}
 use Rattle.client_end.specs.Sessions.{SessionState, happened, heard_cut, link_happened, link_settled}
 use Rattle.client_end.specs.Came.{EndSetup, EndState, GrpCut, SpinCut, Second, ask_sent, client_asks, end_after, end_step, grp_link_ticks}
-use Rattle.client_end.specs.Stands.{EndIs, Failed, Loosely, LosesBoth}
+use Rattle.client_end.specs.Stands.{Failed, Loosely, LosesBoth}
+use Rattle.client_end.specs.Parts.{EndIs}
 use Rattle.client_end.specs.declared.end.ClientEnd.{ClientEnd}
 
 -- a link that ticked, and then is cut, leaves what one leaves that is cut

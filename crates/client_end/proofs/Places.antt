@@ -6,10 +6,11 @@ use Rattle.session_ends.specs.Ending.{Ending}
 use Rattle.session_ends.specs.Events.{Event, Fed}
 use Rattle.client_core.specs.declared.client.UnitClient.{UnitClient}
 use Rattle.client_links.specs.Linking.{Lookups, NoLookup, LinkStands, link_tells}
-use Rattle.spin_path.specs.Paths.{heard_all}
+use Rattle.heard_items.specs.Heard.{heard_all}
 use Rattle.client_end.specs.Links.{link_says}
 use Rattle.client_end.specs.Sessions.{SessionState, fed_at, place_says}
-use Rattle.client_end.specs.Stands.{ClientHeard, SessionStands, LinkIs}
+use Rattle.client_end.specs.Stands.{SessionStands}
+use Rattle.client_end.specs.Parts.{LinkIs, ClientHeard}
 
 -- the link was fed, and the client heard what it told
 pub fed_some : (H : ℕ) (setup : Setup) (client client' : UnitClient) (session : SessionState) (bytes : List ℕ) (link link' : Ending) → link'.setup ≡ link.setup

@@ -7,7 +7,7 @@ use Rattle.pitch_model.specs.History.{Entry, Raw, Ticked}
 use Rattle.session_ends.specs.Ending.{Ending}
 use Rattle.client_core.specs.Tracks.{Tracks, Keeps}
 use Rattle.client_core.specs.declared.client.UnitClient.{UnitClient}
-use Rattle.client_end.specs.Stands.{ClientHeard, PartsAre}
+use Rattle.client_end.specs.Parts.{PartsAre, ClientHeard}
 use Rattle.client_end.specs.Came.{EndSetup, EndState, ask_sent, client_asks}
 
 -- the client ticked

@@ -8,10 +8,10 @@ use Rattle.session_ends.specs.Events.{Event}
 use Rattle.client_core.specs.declared.client.UnitClient.{UnitClient}
 use Rattle.client_links.specs.Linking.{Lookups, LinkStands, link_tells}
 use Rattle.client_links.specs.Telling.{without_spare}
-use Rattle.spin_path.specs.Paths.{heard_all}
-use Rattle.spin_path.proofs.Moves.{spare_is_unheard}
+use Rattle.heard_items.specs.Heard.{heard_all}
+use Rattle.client_links.proofs.Spare.{spare_is_unheard}
 use Rattle.client_end.specs.layers.Hearing.{IsTold, HearsItems}
-use Rattle.client_end.specs.Stands.{ClientHeard}
+use Rattle.client_end.specs.Parts.{ClientHeard}
 use Rattle.client_end.proofs.HeardItems.{honest_first}
 use Rattle.client_end.proofs.LinkItems.{link_told, told_spare}
 

@@ -5,7 +5,7 @@ use Rattle.pitch_model.specs.History.{Entry}
 use Rattle.session_ends.specs.Closing.{Setup, closed_of}
 use Rattle.session_ends.specs.Events.{Event, Fed}
 use Rattle.client_links.specs.Linking.{Lookups, NoLookup, link_tells}
-use Rattle.spin_path.specs.Paths.{heard_all}
+use Rattle.heard_items.specs.Heard.{heard_all}
 use Rattle.client_end.specs.Links.{link_says}
 
 -- what the client heard, and what happened at the session's link since it was made, where there is

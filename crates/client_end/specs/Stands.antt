@@ -1,36 +1,18 @@
--- When an end stands for all that came to it.
+-- When an end stands for all that came to it, and the words of its contracts.
 use Rattle.std.specs.Prelude.{◌≡◌, ◌⊎◌, ℕ, Bool, false, List, ◌∷◌, Option, None, Some}
 use Rattle.std.specs.Prelude.{is_some, take}
-use Rattle.std.specs.List.{AllByRecursion}
-use Rattle.pitch_fields.specs.Fields.{AreBytes}
-use Rattle.pitch_model.specs.History.{Entry, Raw}
-use Rattle.pitch_model.specs.Honest.{Honest}
-use Rattle.pitch_model.specs.Image.{image}
+use Rattle.pitch_model.specs.History.{Entry}
 use Rattle.session_ends.specs.Closing.{Setup}
 use Rattle.session_ends.specs.Ending.{Ending}
 use Rattle.session_ends.specs.Events.{Event}
-use Rattle.client_core.specs.Tracks.{Tracks, Keeps}
 use Rattle.client_core.specs.declared.client.UnitClient.{UnitClient}
 use Rattle.client_links.specs.Linking.{Lookups, LinkStands, link_tells}
-use Rattle.spin_path.specs.Paths.{heard_all}
-use Rattle.client_end.specs.Links.{gap_link, spin_link}
+use Rattle.heard_items.specs.Heard.{heard_all}
 use Rattle.client_end.specs.Sessions.{SessionState}
 use Rattle.client_end.specs.Came.{Came, EndSetup, EndState, GrpCut, SpinCut, Second, end_after}
 use Rattle.client_end.specs.Came.{grp_link_ticks}
+use Rattle.client_end.specs.Parts.{ClientHeard, EndIs, LinkIs}
 use Rattle.client_end.specs.declared.end.ClientEnd.{ClientEnd}
-
--- the client, whose hold has H places, is where what it heard brings it; and its book and what it
--- holds are the messages of each venue of which that history speaks honestly
-pub record ClientHeard (H : ℕ) (client : UnitClient) (E : List Entry) : Type 0 where
-  pub tracks : Tracks client H E
-  pub keeps : (V : List Raw) → AllByRecursion AreBytes V → Honest image V E → Keeps client V
-
--- a link was made so and stands for what happened to it, or there is none
-abbrev pub LinkIs : Setup → Option Ending → Option (List (Event Lookups)) → Type 0
-LinkIs setup None None = Unit {0}
-LinkIs setup None (Some events) = ⊥
-LinkIs setup (Some link) None = ⊥
-LinkIs setup (Some link) (Some events) = (link.setup ≡ setup) × LinkStands link events
 
 -- the link has closed
 abbrev pub has_closed : Option Ending → Bool
@@ -51,18 +33,6 @@ pub record SessionStands (H : ℕ) (setup : Setup) (place : Option Ending) (clie
   pub has : ClientHeard H client session.heard
 
 -- ---- The end
--- a client and its two links
-pub record PartsAre (s : EndSetup) (client : UnitClient) (grp spin : Option Ending)
-    (now : EndState) : Type 0 where
-  pub has : ClientHeard s.hold client now.heard
-  pub grp_is : LinkIs gap_link grp now.grp
-  pub spin_is : LinkIs (spin_link s.unit) spin now.spin
-
-pub record EndIs (s : EndSetup) (e : ClientEnd) (now : EndState) : Type 0 where
-  pub unit_is : e.unit ≡ s.unit
-  pub account_is : e.account ≡ s.account
-  pub parts : PartsAre s e.client e.grp e.spin now
-
 -- an end that was made so stands for all that came to it, the newest first
 abbrev pub EndStands : EndSetup → ClientEnd → List Came → Type 0
 EndStands s e before = EndIs s e (end_after s before)

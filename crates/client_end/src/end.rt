@@ -39,8 +39,9 @@ impl ClientEnd {
     ghost use Rattle.client_end.specs.Came.{GrpLost, SpinMade, SpinTook, SpinCut, SpinLost, Second};
     ghost use Rattle.client_end.specs.Came.{end_after, end_history, end_step};
     ghost use Rattle.client_end.specs.Came.{second_ask, to_proxy, to_spin_server};
-    ghost use Rattle.client_end.specs.Stands.{EndIs, EndStands, Failed, Loosely, OfEnd, Comes};
-    ghost use Rattle.client_end.specs.Stands.{ClientHeard, LosesBoth, StandsStill};
+    ghost use Rattle.client_end.specs.Parts.{ClientHeard, EndIs};
+    ghost use Rattle.client_end.specs.Stands.{EndStands, Failed, Loosely, OfEnd, Comes};
+    ghost use Rattle.client_end.specs.Stands.{LosesBoth, StandsStill};
 
     /// An end to which nothing came yet, whose client holds at most `limit` messages. It logs in
     /// with the account.

@@ -9,14 +9,15 @@ ghost use Rattle.session_ends.specs.Closing.{Setup};
 ghost use Rattle.session_ends.specs.Events.{Event, Fed, Ticked, Asked};
 ghost use Rattle.session_ends.specs.layers.Happening.{Happens};
 ghost use Rattle.client_links.specs.Linking.{Lookups, NoLookup, LinkStands, link_tells};
-ghost use Rattle.spin_path.specs.Paths.{heard_all};
+ghost use Rattle.heard_items.specs.Heard.{heard_all};
 ghost use Rattle.client_end.specs.Links.{gap_link, spin_link};
 ghost use Rattle.client_end.specs.Sessions.{SessionState, fed_at, happened, heard_cut};
 ghost use Rattle.client_end.specs.Sessions.{heard_in_part, link_happened, link_lost, link_settled};
 ghost use Rattle.client_end.specs.Sessions.{link_took, place_says};
 ghost use Rattle.client_end.specs.Came.{EndSetup, EndState, ask_sent, asks_proxy};
 ghost use Rattle.client_end.specs.Came.{asks_spin_server};
-ghost use Rattle.client_end.specs.Stands.{ClientHeard, LinkIs, PartsAre, SessionStands};
+ghost use Rattle.client_end.specs.Stands.{SessionStands};
+ghost use Rattle.client_end.specs.Parts.{PartsAre, LinkIs, ClientHeard};
 ghost use Rattle.client_end.specs.Stands.{HearsInPart, has_closed};
 
 use crate::hearing::hear_told;

@@ -22,10 +22,10 @@ use Rattle.gap_store.specs.layers.Looking.{given, PacksRange}
 use Rattle.gap_store.specs.declared.found.Found.{Found}
 use Rattle.gap_store.specs.declared.found.Found.TheVariants.{Kept}
 use Rattle.spin_server.specs.Served.{Served, is_served}
-use Rattle.spin_server.specs.Looking.{LooksUpImage, imaged, image_given}
+use Rattle.spin_server.specs.layers.Looking.{LooksUpImage, imaged, image_given}
 use Rattle.spin_server.specs.Shelves.{Shelf}
 use Rattle.spin_server.specs.Stands.{ShelfStands}
-use Rattle.spin_server.specs.ShelfViews.{ShelfShows, seen_of}
+use Rattle.spin_server.specs.layers.ShelfViews.{ShelfShows, seen_of}
 use Rattle.spin_server.specs.declared.lookup.Imaged.{Imaged}
 use Rattle.spin_server.specs.declared.lookup.Imaged.TheVariants as answers
 use Rattle.drill_client.specs.layers.Following.{IsImageOf}

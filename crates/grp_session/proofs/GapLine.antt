@@ -18,7 +18,7 @@ use Rattle.session_ends.specs.declared.inbox.Heard.{Heard}
 use Rattle.session_ends.specs.declared.role.Said.{Said}
 use Rattle.session_ends.specs.declared.role.Said.TheVariants.{Message}
 use Rattle.session_ends.specs.Answering.{Answer, answers, no_answer}
-use Rattle.session_ends.specs.Hearings.{Rises}
+use Rattle.session_ends.specs.layers.Hearings.{Rises}
 use Rattle.session_ends.specs.Closing.{Setup, cause_of, logs_in}
 use Rattle.session_ends.specs.Saying.{heard_by}
 use Rattle.session_ends.proofs.Runs.{rises_to}

@@ -13,7 +13,7 @@ use Rattle.session_ends.specs.declared.role.Said.TheVariants.{Message}
 use Rattle.session_ends.specs.Saying.{heard_by}
 use Rattle.session_ends.specs.Inboxes.{Inboxed}
 use Rattle.session_ends.specs.Answering.{Answer, no_answer, answers}
-use Rattle.session_ends.specs.Hearings.{Hears, HearsAll}
+use Rattle.session_ends.specs.layers.Hearings.{Hears, HearsAll}
 use Rattle.session_ends.specs.Closing.{Setup, logged_in}
 use Rattle.session_ends.specs.Ending.{Ending, EndKnows, known_of}
 use Rattle.session_ends.specs.layers.Ticking.{nothing_known, known_ticked}

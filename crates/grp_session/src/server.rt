@@ -10,7 +10,7 @@ ghost use Rattle.gap_store.specs.Look.{View};
 ghost use Rattle.gap_store.specs.layers.Looking.{IsLater};
 ghost use Rattle.session_ends.specs.declared.closed.CloseCause.TheVariants.{Memory};
 ghost use Rattle.session_ends.specs.declared.role.Role.TheVariants.{GrpServer as GrpRole};
-ghost use Rattle.session_ends.specs.Hearings.{Hears, HearsAll};
+ghost use Rattle.session_ends.specs.layers.Hearings.{Hears, HearsAll};
 ghost use Rattle.session_ends.specs.Closing.{cause_of, closed_of, first_cause, logs_in};
 ghost use Rattle.session_ends.specs.Events.{Event, Ticked};
 ghost use Rattle.session_ends.specs.layers.Happening.{Happens, OfEvents};

@@ -30,6 +30,11 @@ heard (item.SpinReply sequence orders status) E =
 heard (item.ImageMessages raws) E = entry.ImageMessages raws.items ∷ E
 heard (item.SpinFinished sequence) E = entry.SpinFinished sequence ∷ E
 
+-- with items that are heard after it, one after another
+abbrev pub heard_all : List Item → List Entry → List Entry
+heard_all [] E = E
+heard_all (item ∷ items) E = heard_all items (heard item E)
+
 -- ---- What an item changes, where the hold has H places
 -- a message is fresh after a history: it is above the reach, and has not come
 abbrev pub is_fresh : ℕ → List Entry → ℕ → Bool

@@ -7,7 +7,7 @@ use Rattle.pitch_model.specs.declared.ask.Ask.{Ask}
 use Rattle.pitch_model.specs.declared.ask.Ask.TheVariants.{Gap, Spin}
 use Rattle.pitch_model.specs.History.{Entry, Raw, Message, GrpDown, SpinDown, Ticked}
 use Rattle.pitch_model.specs.Honest.{message_at, Honest, IsHonestAt}
-use Rattle.heard_items.specs.Heard.{heard, heard_messages, heard_block}
+use Rattle.heard_items.specs.Heard.{heard, heard_messages, heard_block, heard_all}
 use Rattle.heard_items.specs.HeardBlocks.{heard_sequenced}
 use Rattle.heard_items.specs.declared.item.Item.{Item}
 use Rattle.heard_items.proofs.Honesty.{honest_heard}
@@ -15,7 +15,6 @@ use Rattle.session_ends.specs.Closing.{Setup, closed_of}
 use Rattle.session_ends.specs.Events.{Event}
 use Rattle.session_ends.specs.Events as event
 use Rattle.client_links.specs.Linking.{Lookups, link_tells}
-use Rattle.spin_path.specs.Paths.{heard_all}
 use Rattle.client_end.specs.Links.{gap_link, spin_link}
 use Rattle.client_end.specs.Sessions.{SessionState, fed_at, happened, heard_cut, heard_in_part, link_took, link_lost, settled_at}
 use Rattle.client_end.specs.Came.{Came, EndSetup, EndState, Heard, GrpMade, GrpTook, GrpCut, GrpLost, SpinMade, SpinTook, SpinCut, SpinLost, Second, ask_sent, both_links_tick, end_after, end_history, grp_link_ticks}

@@ -9,14 +9,13 @@ use Rattle.pitch_model.specs.History.{Entry, Raw, Message, Next, GrpUp, GrpDown,
 use Rattle.pitch_model.specs.Honest.{Honest}
 use Rattle.pitch_model.specs.Image.{image}
 use Rattle.pitch_model.specs.Reach.{reach}
-use Rattle.heard_items.specs.Heard.{heard, heard_messages}
+use Rattle.heard_items.specs.Heard.{heard, heard_messages, heard_all}
 use Rattle.heard_items.specs.declared.item.Item.{Item}
 use Rattle.heard_items.specs.declared.item.Item.TheVariants as item
 use Rattle.session_ends.specs.Closing.{Setup, closed_of}
 use Rattle.session_ends.specs.Events.{Event}
 use Rattle.session_ends.specs.Events as event
 use Rattle.client_links.specs.Linking.{Lookups, link_tells}
-use Rattle.spin_path.specs.Paths.{heard_all}
 use Rattle.client_end.specs.Came.{Came, EndSetup, EndState, Heard, GrpMade, GrpTook, GrpCut, GrpLost, SpinMade, SpinTook, SpinCut, SpinLost, Second, ask_sent, both_links_tick, end_after, end_history, grp_link_ticks}
 use Rattle.client_end.specs.layers.Hearing.{IsTold}
 use Rattle.client_end.specs.Links.{gap_link, spin_link}

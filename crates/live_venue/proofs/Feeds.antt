@@ -15,7 +15,7 @@ feeds_at_first s at setup there = record { bytes = tt; top = omega arith }
 pub feeds_of : (s : List VenueSetup) (u : VenueUnits) (came : List UnitCame) → UnitsStand s u came → AreFeeds s came
 feeds_of s u came stand at setup there = elim (slice_get_cases u.ends.items at).1 [
   | inl (end, within, is, same) ↦
-      let has = (stand.each at setup end there is).core.market.venue in
+      let has = (stand.each at setup end there is).market.venue in
       record { bytes = has.bytes; top = has.few }
   | inr (le, none) ↦
       let within = slice_get_within s at setup there in

@@ -1,154 +1,338 @@
--- Over a net that carried what it was given, the client's book is that of the venue's messages: what
--- came to the client's end is of the venue, since all that the Spin Server says in the run is said
--- first, and then comes by and by.
-use Rattle.std.proofs.Common.{◌≡◌, ℕ, ◌≤◌, ◌||◌, Bool, true, false, List, [], ◌∷◌, ◌++◌, length, take, refl, sym, ap, ◌∙◌, subst, append_assoc, arith}
-use Rattle.std.specs.FinMap as map
-use Rattle.std.specs.List.{AllByRecursion, Contains}
-use Rattle.std.proofs.lemmas.List.{append-nil}
+-- Over a net that carried what it was given, what the client heard is of the venue's messages.
+use Rattle.std.proofs.Common.{◌≡◌, ◌≤◌, ◌<◌, ◌+◌, ℕ, zero, suc, Bool, true, false, cond, List, [], ◌∷◌, ◌++◌, length, take, drop, refl, sym, ap, ◌∙◌, subst, arith, append_assoc, eqb}
+use Rattle.std.specs.Prelude.{Contains, nat_le}
+use Rattle.std.specs.List.{AllByRecursion}
+use Rattle.std.proofs.lemmas.List.{append-nil, take-append-drop}
 use Rattle.std.proofs.lemmas.List.Elements.{All-from_recursion, All-contains, Contains-append_left, Contains-push}
-use Rattle.pitch_fields.specs.Fields.{AreBytes}
+use Rattle.std.proofs.Math.Seq.{take-append-add}
 use Rattle.pitch_fields.specs.Limits.{last_sequence}
 use Rattle.pitch_io.specs.declared.line.Line.{Line}
 use Rattle.pitch_io.specs.declared.line.Line.TheVariants.{A, B, Gap}
-use Rattle.pitch_io.specs.declared.net.LinkEnd.{LinkEnd}
 use Rattle.pitch_io.specs.declared.net.LinkEnd.TheVariants.{GrpClient, GrpServer, SpinClient, SpinServer}
 use Rattle.pitch_io.specs.declared.net.NetTaken.{NetTaken}
 use Rattle.pitch_io.specs.declared.net.NetTaken.TheVariants.{Got, Quiet, End, Failed}
+use Rattle.pitch_io.specs.declared.sink.Put.{Put as PutAnswer}
+use Rattle.pitch_io.specs.declared.sink.Put.TheVariants as puts
 use Rattle.pitch_io.specs.Nets.{Begin, Send, Next, Put, Take}
-use Rattle.unit_packets.specs.Cutting.{blocks_of}
-use Rattle.pitch_model.specs.Book.{Book, book_after}
 use Rattle.pitch_model.specs.History.{Raw}
 use Rattle.pitch_model.specs.Honest.{Honest}
 use Rattle.pitch_model.specs.Image.{image}
-use Rattle.pitch_model.specs.Levels.{shares}
-use Rattle.heard_items.specs.Datagrams.{IsPiece}
-use Rattle.session_ends.specs.Events.{Event}
-use Rattle.spin_server.specs.Served.{Served}
-use Rattle.client_core.specs.Tracks.{Keeps}
-use Rattle.client_core.specs.Client.{current_book}
-use Rattle.client_core.specs.declared.client.UnitClient.{UnitClient}
-use Rattle.client_links.specs.Linking.{Lookups}
-use Rattle.client_end.specs.Came.{EndState, GrpMade, SpinMade}
-use Rattle.venue_end.specs.Servers.{spin_setup}
-use Rattle.served_laws.specs.Coming.{IsSaid}
+use Rattle.pitch_text.specs.declared.verb.Session.{Session}
+use Rattle.pitch_text.specs.declared.verb.Session.TheVariants.{Grp, Spin}
+use Rattle.pitch_text.specs.declared.verb.Verb.TheVariants as verbs
+use Rattle.unit_packets.specs.Blocks.{Block}
+use Rattle.unit_packets.specs.Cutting.{blocks_of}
+use Rattle.heard_items.specs.Datagrams.{IsPiece, IsVenueBlock}
+use Rattle.client_end.specs.Came.{Came, EndState, Heard, GrpCut, GrpTook, end_after, end_step}
+use Rattle.client_end.specs.Came as client
+use Rattle.sending_end.specs.Waiting.{of_unit, took}
+use Rattle.venue_core.specs.Plan.{plan_command}
+use Rattle.venue_core.proofs.PlanBytes.{plan_bytes}
+use Rattle.venue_end.specs.Came.{VenueCame, VenueState, Commanded, Flushed, Advertised, SpinPumped, Second, venue_after, venue_step}
+use Rattle.venue_end.specs.Sessions.{session_of, waiting_in}
+use Rattle.served_laws.specs.Coming.{ComesFrom, IsSaid, spin_bytes}
+use Rattle.served_laws.specs.Putting.{put_of}
+use Rattle.served_laws.proofs.Beside.{prefix_on}
 use Rattle.served_laws.proofs.Hearing.{served_is_whole}
-use Rattle.net_edge.specs.Acting.{scene_after, scene_of, is_group_open, sent_on, spin_server_fed, spin_answered}
-use Rattle.net_edge.specs.Connection.{Connection, pumps}
-use Rattle.net_edge.specs.Demo.{IsCarried, AreTotalsOf, all_messages, reached_book}
-use Rattle.net_edge.specs.Due.{Setting, demo_unit, demo_setup}
-use Rattle.net_edge.specs.layers.Playing.{ClientHas}
-use Rattle.net_edge.specs.Scene.{Scene, line_in, at_end, said_at}
+use Rattle.served_laws.proofs.Putting.{put_is_said}
+use Rattle.world_model.specs.Ends.{at_client, default_limits, server_cut, server_made, server_put, server_took, stands, the_session}
+use Rattle.world_model.specs.State.{State}
+use Rattle.world_model.specs.Verbs.{client_has, hears, hears_block, pumped, pumps, seconds, settled, venue_has}
+use Rattle.net_edge.specs.Acting.{bytes_put, came_by, heard_by, is_group_open, link_takes, scene_after, scene_of, server_answers, server_takes}
+use Rattle.net_edge.specs.Demo.{IsCarried, all_messages}
+use Rattle.net_edge.specs.Due.{Setting, accepted, demo_unit}
+use Rattle.net_edge.specs.Scene.{Scene, connected, done_with, is_got, line_in, published}
 use Rattle.net_edge.specs.Steps.{Step, Did, Beat, Turn}
 use Rattle.net_edge.specs.Turns.{AreSteps, MayCome}
-use Rattle.net_edge.proofs.Coming.{At, Reached, end_setup, end_in, blocks_come, grp_took, grp_ended, spin_took, spin_ended, second_comes}
-use Rattle.net_edge.proofs.Growing.{Begins, IsBefore, before_then, before_same, grows}
-use Rattle.net_edge.proofs.Spinning.{pumped_link}
-use Rattle.net_edge.proofs.Spoken.{Says, says_all}
+use Rattle.net_edge.specs.layers.Ends.{demo_client, demo_venue}
+use Rattle.net_edge.proofs.Feeding.{all_many, sent_pieces}
+use Rattle.net_edge.proofs.Growing.{Begins, IsBefore, before_same, before_then, grows}
+use Rattle.net_edge.proofs.Standing.{stood}
 
--- ---- What the Spin Server takes changes nothing at the client's end
-fed_link : (s : Setting) (bytes : List ℕ) (answer : NetTaken) (turn : ℕ) (c : Connection (List Served)) → (spin_server_fed s bytes answer turn c).link ≡ c.link
-fed_link s bytes (Got count) turn c = refl
-fed_link s bytes Quiet turn c = refl
-fed_link s bytes End turn c = refl
-fed_link s bytes Failed turn c = refl
+-- ---- All that came to the venue's end
+-- a world's venue stands for all that came to it, and this was put of what the Spin Server said
+pub record VenueCameTo (w : State) (put : List ℕ) : Type 0 where
+  pub came : List VenueCame
+  pub venue_is : w.venue ≡ venue_after demo_venue came
+  pub put_is : put_of demo_venue the_session came ≡ put
 
-answered_link : (s : Setting) (bytes : List ℕ) (answer : NetTaken) (turn : ℕ) (goes_on : Bool) (c : Connection (List Served)) → (spin_answered s bytes answer turn goes_on c).link ≡ c.link
-answered_link s bytes answer turn true c = fed_link s bytes answer turn c
-answered_link s bytes answer turn false c =
-    let fed : Connection (List Served) = spin_server_fed s bytes answer turn c in
-    pumped_link (pumps fed.server) fed ∙ fed_link s bytes answer turn c
+-- something more came, by which nothing was put
+came_then : (new : VenueCame) (w : State) (put : List ℕ) → ((before : List VenueCame) → put_of demo_venue the_session (new ∷ before) ≡ put_of demo_venue the_session before) → VenueCameTo w put → VenueCameTo (venue_has demo_unit default_limits new w) put
+came_then new w put still is = record { came = new ∷ is.came; venue_is = ap (venue_step demo_venue new) is.venue_is; put_is = still is.came ∙ is.put_is }
 
--- an end that is asked still stands
-uncut : (ended cut : Bool) → (ended || cut) ≡ false → cut ≡ false
-uncut true cut e = absurd cc
-uncut false cut e = e
+came_same : (w v : State) (put : List ℕ) → v.venue ≡ w.venue → VenueCameTo w put → VenueCameTo v put
+came_same w v put same is = record { came = is.came; venue_is = same ∙ is.venue_is; put_is = is.put_is }
 
--- ---- Along a run
-module _ (s : Setting) (R : Scene) (carried : IsCarried R) (puts : (at : LinkEnd) → (at_end at R).put ≡ said_at at R) (pieces : (line : Line) → AllByRecursion (IsPiece (all_messages s) demo_unit) (line_in line R).sent) (says : Says s R.spin) where
-  abbrev V : List Raw
-  V = all_messages s
+cut_came : (session : Session) (w : State) (put : List ℕ) → VenueCameTo w put → VenueCameTo (venue_has demo_unit default_limits (server_cut session) w) put
+cut_came Grp w put is = came_then (server_cut Grp) w put (λ b. refl) is
+cut_came Spin w put is = came_then (server_cut Spin) w put (λ b. refl) is
 
-  -- a datagram that came was sent
-  came_piece : (line : Line) (came : List (List ℕ)) (bytes : List ℕ) → Begins (came ++ bytes ∷ []) (line_in line R).came → IsPiece V demo_unit bytes
-  came_piece line came bytes begins =
-      let there : Contains (line_in line R).came bytes = subst (λ (ds : List (List ℕ)). Contains ds bytes) (sym begins.1) (Contains-append_left (came ++ bytes ∷ []) begins.0 bytes (Contains-push came bytes)) in
-      All-contains (IsPiece V demo_unit) (line_in line R).sent bytes (All-from_recursion (IsPiece V demo_unit) (line_in line R).sent (pieces line)) (carried.lines line bytes there)
+settled_came : (session : Session) (w : State) (put : List ℕ) → VenueCameTo w put → VenueCameTo (settled demo_unit default_limits session w) put
+settled_came session w put is = by (stands session w.client)
+  where
+    by : (b : Bool) → VenueCameTo (cond b w (venue_has demo_unit default_limits (server_cut session) w)) put
+    by true = is
+    by false = cut_came session w put is
 
-  -- the bytes that came from the Spin Server are the next that it said
-  came_said : (came bytes : List ℕ) → Begins (came ++ bytes) R.spin_client.came → IsSaid V demo_unit (came ++ bytes)
-  came_said came bytes begins =
-      let late = carried.ends SpinClient in
-      let all : R.spin.down ≡ (came ++ bytes) ++ (begins.0 ++ late.0) =
-      sym (puts SpinServer) ∙ late.1 ∙ ap (λ (b : List ℕ). b ++ late.0) begins.1 ∙ append_assoc (came ++ bytes) begins.0 late.0 in
-      record {
-        setup = spin_setup demo_setup;
-        server = record { role_is = refl; unit_is = omega arith };
-        unit_is = refl;
-        happened = R.spin.server;
-        served = says.served;
-        begins = (begins.0 ++ late.0, sym all ∙ says.said_is);
-      }
+pumped_came : (n : ℕ) (w : State) (put : List ℕ) → VenueCameTo w put → VenueCameTo (pumped demo_unit default_limits n w) put
+pumped_came zero w put is = is
+pumped_came (suc n) w put is = came_then (SpinPumped the_session) (pumped demo_unit default_limits n w) put (λ b. refl) (pumped_came n w put is)
 
-  -- nothing came
-  still : (n : Scene) → At V n → Reached V (end_in n) (n.spin_client.came ++ [])
-  still n r = subst (Reached V (end_in n)) (sym (append-nil n.spin_client.came)) r
+answers_came : (session : Session) (bytes : List ℕ) (answer : NetTaken) (w : State) (put : List ℕ) → VenueCameTo w put → VenueCameTo (server_answers session bytes answer w) put
+answers_came Grp bytes (Got count) w put is = came_same (venue_has demo_unit default_limits (server_took Grp bytes) w) _ put refl (came_then (server_took Grp bytes) w put (λ b. refl) is)
+answers_came Spin bytes (Got count) w put is = came_then (server_took Spin bytes) w put (λ b. refl) is
+answers_came Grp bytes Quiet w put is = is
+answers_came Grp bytes End w put is = is
+answers_came Grp bytes Failed w put is = is
+answers_came Spin bytes Quiet w put is = is
+answers_came Spin bytes End w put is = is
+answers_came Spin bytes Failed w put is = is
 
-  came_more : (step : Step) (n : Scene) → MayCome s step n → IsBefore (scene_after s step n) R → At V n → At V (scene_after s step n)
-  came_more (Did (Begin answer)) n may before r = r
-  came_more (Did (Send A datagram answer)) n may before r = r
-  came_more (Did (Send B datagram answer)) n may before r = r
-  came_more (Did (Send Gap datagram answer)) n may before r = r
-  came_more (Did (Next A room bytes (Got count))) n may before r = blocks_come V (blocks_of bytes) n (came_piece A n.a.came bytes before.a).blocks r
-  came_more (Did (Next A room bytes Quiet)) n may before r = r
-  came_more (Did (Next A room bytes End)) n may before r = r
-  came_more (Did (Next A room bytes Failed)) n may before r = r
-  came_more (Did (Next B room bytes (Got count))) n may before r = blocks_come V (blocks_of bytes) n (came_piece B n.b.came bytes before.b).blocks r
-  came_more (Did (Next B room bytes Quiet)) n may before r = r
-  came_more (Did (Next B room bytes End)) n may before r = r
-  came_more (Did (Next B room bytes Failed)) n may before r = r
-  came_more (Did (Next Gap room bytes (Got count))) n may before r = blocks_come V (blocks_of bytes) n (came_piece Gap n.gap.came bytes before.gap).blocks r
-  came_more (Did (Next Gap room bytes Quiet)) n may before r = r
-  came_more (Did (Next Gap room bytes End)) n may before r = r
-  came_more (Did (Next Gap room bytes Failed)) n may before r = r
-  came_more (Did (Put GrpClient piece answer)) n may before r = r
-  came_more (Did (Put GrpServer piece answer)) n may before r = r
-  came_more (Did (Put SpinClient piece answer)) n may before r = r
-  came_more (Did (Put SpinServer piece answer)) n may before r = r
-  came_more (Did (Take GrpServer room bytes (Got count))) n may before r = r
-  came_more (Did (Take GrpServer room bytes Quiet)) n may before r = r
-  came_more (Did (Take GrpServer room bytes End)) n may before r = r
-  came_more (Did (Take GrpServer room bytes Failed)) n may before r = r
-  came_more (Did (Take SpinServer room bytes answer)) n may before r =
-      subst (λ (l : List (Event Lookups)). Reached V (end_in (record n { spin = record n.spin { link = l } })) n.spin_client.came)
-      (sym (answered_link s bytes answer n.turn (is_group_open (answer ∷ n.spin_server.answers)) n.spin)) r
-  came_more (Did (Take GrpClient room bytes (Got count))) n may before r = grp_took V n bytes count (uncut n.grp_client.ended n.grp_cut may.1.2) r
-  came_more (Did (Take GrpClient room bytes Quiet)) n may before r = r
-  came_more (Did (Take GrpClient room bytes End)) n may before r = grp_ended V n (uncut n.grp_client.ended n.grp_cut may.1.2) r
-  came_more (Did (Take GrpClient room bytes Failed)) n may before r = r
-  came_more (Did (Take SpinClient room bytes (Got count))) n may before r = spin_took V n bytes count (uncut n.spin_client.ended n.spin_cut may.1.2) (came_said n.spin_client.came bytes before.spin) r
-  came_more (Did (Take SpinClient room bytes Quiet)) n may before r = still n r
-  came_more (Did (Take SpinClient room bytes End)) n may before r = spin_ended V n (uncut n.spin_client.ended n.spin_cut may.1.2) r
-  came_more (Did (Take SpinClient room bytes Failed)) n may before r = still n r
-  came_more (Beat heartbeat answer) n may before r = second_comes V s (sent_on B (heartbeat ∷ []) n) r
-  came_more Turn n may before r = r
+serves_came : (bytes : List ℕ) (answer : NetTaken) (goes_on : Bool) (w : State) (put : List ℕ) → VenueCameTo w put → VenueCameTo (server_takes Spin bytes answer goes_on w) put
+serves_came bytes answer true w put is = answers_came Spin bytes answer w put is
+serves_came bytes answer false w put is =
+    let v : State = server_answers Spin bytes answer w in
+    pumped_came (pumps demo_venue (session_of the_session v.venue.spins)) v put (answers_came Spin bytes answer w put is)
 
--- ---- A whole run
-module _ (s : Setting) (run : List Step) (carried : IsCarried (scene_of s run)) (puts : (at : LinkEnd) → (at_end at (scene_of s run)).put ≡ said_at at (scene_of s run))
-    (pieces : (line : Line) → AllByRecursion (IsPiece (all_messages s) demo_unit) (line_in line (scene_of s run)).sent) where
-  came_all : (steps : List Step) → AreSteps s steps → IsBefore (scene_of s steps) (scene_of s run) → At (all_messages s) (scene_of s steps)
-  came_all [] are before = record { before = SpinMade ∷ GrpMade ∷ []; comes = (tt, (tt, tt)); is = refl; bytes_are = refl }
-  came_all (step ∷ earlier) are before =
-      let n : Scene = scene_of s earlier in
-      came_more s (scene_of s run) carried puts pieces (says_all s run) step n are.0 before (came_all earlier are.1 (before_then n (scene_after s step n) (scene_of s run) (grows s step n) before))
+links_came : (session : Session) (bytes : List ℕ) (answer : NetTaken) (w : State) (put : List ℕ) → VenueCameTo w put → VenueCameTo (link_takes session bytes answer w) put
+links_came session bytes (Got count) w put is = settled_came session (client_has demo_unit default_limits (took (at_client session) bytes) w) put (came_same w _ put refl is)
+links_came session bytes End w put is = came_same (venue_has demo_unit default_limits (server_cut session) w) _ put refl (cut_came session w put is)
+links_came session bytes Quiet w put is = is
+links_came session bytes Failed w put is = is
 
-  -- the client's book is the venue's
-  pub carried_book : (client : UnitClient) → AllByRecursion AreBytes (all_messages s) → length (all_messages s) ≤ last_sequence → AreSteps s run → ClientHas client (scene_of s run).heard
-      → AreTotalsOf (reached_book s (scene_of s run)) (map.len (current_book client).orders) (shares (current_book client))
-  carried_book client bytes few are has =
-      let R : Scene = scene_of s run in
-      let V : List Raw = all_messages s in
-      let came : At V R = came_all run are (before_same R) in
-      let honest : Honest image V R.heard = subst (λ (now : EndState). Honest image V now.heard) came.is (served_is_whole V end_setup came.before (record { bytes = bytes; top = few }) came.comes).honest in
-      let kept : Keeps client V = has.keeps V bytes honest in
-      let book_is : current_book client ≡ reached_book s R = kept.book_is ∙ ap (λ (n : ℕ). book_after (take n V)) has.tracks.floor_is in
-      record { orders_are = ap (λ (b : Book). map.len b.orders) book_is; shares_are = ap shares book_is }
+heard_venue : (line : Line) (blocks : List Block) (w : State) → (hears demo_unit default_limits line blocks w).venue ≡ w.venue
+heard_venue line [] w = refl
+heard_venue line (block ∷ blocks) w = heard_venue line blocks (hears_block demo_unit default_limits line block w)
+
+heard_came : (line : Line) (bytes : List ℕ) (answer : NetTaken) (w : State) (put : List ℕ) → VenueCameTo w put → VenueCameTo (heard_by line bytes answer w) put
+heard_came line bytes (Got count) w put is = came_same w _ put (heard_venue line (of_unit demo_unit (blocks_of bytes)) w) is
+heard_came line bytes Quiet w put is = is
+heard_came line bytes End w put is = is
+heard_came line bytes Failed w put is = is
+
+published_came : (s : Setting) (turn : ℕ) (w : State) (put : List ℕ) → VenueCameTo w put → VenueCameTo (published s turn w) put
+published_came s turn w put is = by (nat_le turn s.count)
+  where
+    by : (b : Bool) → VenueCameTo (cond b (done_with verbs.Flush (done_with (verbs.Command (plan_command s.number demo_unit turn)) w)) w) put
+    by true =
+        let command : VenueCame = Commanded (plan_command s.number demo_unit turn) in
+        let v : State = venue_has demo_unit default_limits command w in
+        came_same (venue_has demo_unit default_limits Flushed v) _ put refl (came_then Flushed v put (λ b. refl) (came_then command w put (λ b. refl) is))
+    by false = is
+
+-- some of what waits is put
+take_written : (answer : PutAnswer) (piece later : List ℕ) → take (length (bytes_put answer piece)) (piece ++ later) ≡ bytes_put answer piece
+take_written puts.Failed piece later = refl
+take_written (puts.Wrote count) piece later =
+    let whole : piece ++ later ≡ take count piece ++ (drop count piece ++ later) = ap (λ (l : List ℕ). l ++ later) (sym (take-append-drop count piece)) ∙ append_assoc (take count piece) (drop count piece) later in
+    let sum : length (take count piece) + 0 ≡ length (take count piece) = omega arith in
+    ap (take (length (take count piece))) whole ∙ ap (λ (k : ℕ). take k (take count piece ++ (drop count piece ++ later))) (sym sum)
+    ∙ take-append-add (take count piece) (drop count piece ++ later) 0 ∙ append-nil (take count piece)
+
+put_came : (answer : PutAnswer) (piece later : List ℕ) (w : State) (put : List ℕ) → waiting_in (session_of the_session w.venue.spins) ≡ piece ++ later → VenueCameTo w put
+    → VenueCameTo (venue_has demo_unit default_limits (server_put Spin (length (bytes_put answer piece))) w) (put ++ bytes_put answer piece)
+put_came answer piece later w put waits is =
+    let count : ℕ = length (bytes_put answer piece) in
+    let written : take count (waiting_in (session_of the_session (venue_after demo_venue is.came).spins)) ≡ bytes_put answer piece =
+    ap (λ (v : VenueState). take count (waiting_in (session_of the_session v.spins))) (sym is.venue_is) ∙ ap (take count) waits ∙ take_written answer piece later in
+    record {
+      came = server_put Spin count ∷ is.came;
+      venue_is = ap (venue_step demo_venue (server_put Spin count)) is.venue_is;
+      put_is = ap (λ (l : List ℕ). l ++ take count (waiting_in (session_of the_session (venue_after demo_venue is.came).spins))) is.put_is ∙ ap (λ (l : List ℕ). put ++ l) written;
+    }
+
+module _ (s : Setting) where
+  venue_more : (step : Step) (n : Scene) → MayCome s step n → VenueCameTo n.world n.spin_server.put → VenueCameTo (scene_after s step n).world (scene_after s step n).spin_server.put
+  venue_more (Did (Begin answer)) n may is = is
+  venue_more (Did (Send A datagram answer)) n may is = is
+  venue_more (Did (Send B datagram answer)) n may is = is
+  venue_more (Did (Send Gap datagram answer)) n may is = is
+  venue_more (Did (Next A room bytes answer)) n may is = heard_came A bytes answer n.world n.spin_server.put is
+  venue_more (Did (Next B room bytes answer)) n may is = heard_came B bytes answer n.world n.spin_server.put is
+  venue_more (Did (Next Gap room bytes answer)) n may is = heard_came Gap bytes answer n.world n.spin_server.put is
+  venue_more (Did (Put GrpClient piece answer)) n may is = came_same n.world _ n.spin_server.put refl is
+  venue_more (Did (Put GrpServer piece answer)) n may is = came_then (server_put Grp (length (bytes_put answer piece))) n.world n.spin_server.put (λ b. refl) is
+  venue_more (Did (Put SpinClient piece answer)) n may is = came_same n.world _ n.spin_server.put refl is
+  venue_more (Did (Put SpinServer piece answer)) n may is = put_came answer piece may.1.0 n.world n.spin_server.put may.1.1 is
+  venue_more (Did (Take GrpClient room bytes answer)) n may is = links_came Grp bytes answer n.world n.spin_server.put is
+  venue_more (Did (Take GrpServer room bytes answer)) n may is = answers_came Grp bytes answer n.world n.spin_server.put is
+  venue_more (Did (Take SpinClient room bytes answer)) n may is = links_came Spin bytes answer n.world n.spin_server.put is
+  venue_more (Did (Take SpinServer room bytes answer)) n may is = serves_came bytes answer (is_group_open (answer ∷ n.spin_server.answers)) n.world n.spin_server.put is
+  venue_more (Beat heartbeat answer) n may is =
+      let put : List ℕ = n.spin_server.put in
+      let told : State = venue_has demo_unit default_limits Advertised n.world in
+      let passed : State = seconds demo_unit default_limits told in
+      let second : VenueCameTo passed put = came_same (venue_has demo_unit default_limits Second told) passed put refl (came_then Second told put (λ b. refl) (came_then Advertised n.world put (λ b. refl) is)) in
+      settled_came Spin (settled demo_unit default_limits Grp passed) put (settled_came Grp passed put second)
+  venue_more Turn n may is = published_came s (suc n.turn) n.world n.spin_server.put is
+
+  connected_came : VenueCameTo connected []
+  connected_came = record { came = server_made Spin ∷ server_made Grp ∷ []; venue_is = refl; put_is = refl }
+
+  venue_all : (run : List Step) → AreSteps s run → VenueCameTo (scene_of s run).world (scene_of s run).spin_server.put
+  venue_all [] steps = published_came s 1 connected [] connected_came
+  venue_all (step ∷ before) steps = venue_more step (scene_of s before) steps.0 (venue_all before steps.1)
+
+-- ---- All that came to the client's end
+module _ (M : List Raw) where
+  pub record ClientCameTo (w : State) (bytes : List ℕ) : Type 0 where
+    pub came : List Came
+    pub client_is : w.client ≡ end_after demo_client came
+    pub bytes_are : spin_bytes came ≡ bytes
+    pub from : ComesFrom M demo_unit came
+
+  told_same : (w v : State) (bytes : List ℕ) → v.client ≡ w.client → ClientCameTo w bytes → ClientCameTo v bytes
+  told_same w v bytes same is = record { came = is.came; client_is = same ∙ is.client_is; bytes_are = is.bytes_are; from = is.from }
+
+  none_more : (w : State) (bytes : List ℕ) → ClientCameTo w bytes → ClientCameTo w (bytes ++ [])
+  none_more w bytes is = record { came = is.came; client_is = is.client_is; bytes_are = is.bytes_are ∙ sym (append-nil bytes); from = is.from }
+
+  settled_told : (session : Session) (w : State) (bytes : List ℕ) → ClientCameTo w bytes → ClientCameTo (settled demo_unit default_limits session w) bytes
+  settled_told session w bytes is = by (stands session w.client)
+    where
+      by : (b : Bool) → ClientCameTo (cond b w (venue_has demo_unit default_limits (server_cut session) w)) bytes
+      by true = is
+      by false = told_same w _ bytes refl is
+
+  pumped_told : (n : ℕ) (w : State) (bytes : List ℕ) → ClientCameTo w bytes → ClientCameTo (pumped demo_unit default_limits n w) bytes
+  pumped_told zero w bytes is = is
+  pumped_told (suc n) w bytes is = told_same (pumped demo_unit default_limits n w) _ bytes refl (pumped_told n w bytes is)
+
+  answers_told : (session : Session) (piece : List ℕ) (answer : NetTaken) (w : State) (bytes : List ℕ) → ClientCameTo w bytes → ClientCameTo (server_answers session piece answer w) bytes
+  answers_told Grp piece (Got count) w bytes is = told_same w _ bytes refl is
+  answers_told Spin piece (Got count) w bytes is = told_same w _ bytes refl is
+  answers_told Grp piece Quiet w bytes is = is
+  answers_told Grp piece End w bytes is = is
+  answers_told Grp piece Failed w bytes is = is
+  answers_told Spin piece Quiet w bytes is = is
+  answers_told Spin piece End w bytes is = is
+  answers_told Spin piece Failed w bytes is = is
+
+  serves_told : (piece : List ℕ) (answer : NetTaken) (goes_on : Bool) (w : State) (bytes : List ℕ) → ClientCameTo w bytes → ClientCameTo (server_takes Spin piece answer goes_on w) bytes
+  serves_told piece answer true w bytes is = answers_told Spin piece answer w bytes is
+  serves_told piece answer false w bytes is =
+      let v : State = server_answers Spin piece answer w in
+      pumped_told (pumps demo_venue (session_of the_session v.venue.spins)) v bytes (answers_told Spin piece answer w bytes is)
+
+  published_told : (s : Setting) (turn : ℕ) (w : State) (bytes : List ℕ) → ClientCameTo w bytes → ClientCameTo (published s turn w) bytes
+  published_told s turn w bytes is = by (nat_le turn s.count)
+    where
+      by : (b : Bool) → ClientCameTo (cond b (done_with verbs.Flush (done_with (verbs.Command (plan_command s.number demo_unit turn)) w)) w) bytes
+      by true = told_same w _ bytes refl is
+      by false = is
+
+  -- the proxy's link is fed or ends
+  grp_told : (piece : List ℕ) (answer : NetTaken) (w : State) (bytes : List ℕ) → ClientCameTo w bytes → ClientCameTo (link_takes Grp piece answer w) bytes
+  grp_told piece (Got count) w bytes is = settled_told Grp (client_has demo_unit default_limits (took (at_client Grp) piece) w) bytes (record {
+    came = GrpTook piece ∷ is.came;
+    client_is = ap (end_step demo_client (GrpTook piece)) is.client_is;
+    bytes_are = is.bytes_are;
+    from = (tt, is.from);
+  })
+  grp_told piece End w bytes is = record { came = GrpCut ∷ is.came; client_is = ap (end_step demo_client GrpCut) is.client_is; bytes_are = is.bytes_are; from = (tt, is.from) }
+  grp_told piece Quiet w bytes is = is
+  grp_told piece Failed w bytes is = is
+
+  -- that of the Spin Server, with bytes that go on with what a server said
+  spin_told : (piece : List ℕ) (count : ℕ) (w : State) (bytes : List ℕ) → IsSaid M demo_unit (bytes ++ piece) → ClientCameTo w bytes → ClientCameTo (link_takes Spin piece (Got count) w) (bytes ++ piece)
+  spin_told piece count w bytes said is = settled_told Spin (client_has demo_unit default_limits (took (at_client Spin) piece) w) (bytes ++ piece) (record {
+    came = client.SpinTook piece ∷ is.came;
+    client_is = ap (end_step demo_client (client.SpinTook piece)) is.client_is;
+    bytes_are = ap (λ (l : List ℕ). l ++ piece) is.bytes_are;
+    from = (subst (λ (l : List ℕ). IsSaid M demo_unit (l ++ piece)) (sym is.bytes_are) said, is.from);
+  })
+
+  spin_ends : (piece : List ℕ) (w : State) (bytes : List ℕ) → ClientCameTo w bytes → ClientCameTo (link_takes Spin piece End w) (bytes ++ [])
+  spin_ends piece w bytes is = none_more _ bytes (record { came = client.SpinCut ∷ is.came; client_is = ap (end_step demo_client client.SpinCut) is.client_is; bytes_are = is.bytes_are; from = (tt, is.from) })
+
+  -- ---- Lines
+  ours_all : (blocks : List Block) → AllByRecursion (IsVenueBlock M demo_unit) blocks → AllByRecursion (IsVenueBlock M demo_unit) (of_unit demo_unit blocks)
+  ours_all [] all = tt
+  ours_all (block ∷ blocks) all = by (eqb block.unit demo_unit) (ours_all blocks all.1)
+    where
+      by : (b : Bool) → AllByRecursion (IsVenueBlock M demo_unit) (of_unit demo_unit blocks) → AllByRecursion (IsVenueBlock M demo_unit) (cond b (block ∷ of_unit demo_unit blocks) (of_unit demo_unit blocks))
+      by true rest = (all.0, rest)
+      by false rest = rest
+
+  hears_told : (line : Line) (blocks : List Block) (w : State) (bytes : List ℕ) → AllByRecursion (IsVenueBlock M demo_unit) blocks → ClientCameTo w bytes → ClientCameTo (hears demo_unit default_limits line blocks w) bytes
+  hears_told line [] w bytes all is = is
+  hears_told line (block ∷ blocks) w bytes all is = hears_told line blocks (hears_block demo_unit default_limits line block w) bytes all.1 (record {
+    came = Heard block ∷ is.came;
+    client_is = ap (end_step demo_client (Heard block)) is.client_is;
+    bytes_are = is.bytes_are;
+    from = (all.0, is.from);
+  })
+
+  heard_told : (line : Line) (piece : List ℕ) (answer : NetTaken) (w : State) (bytes : List ℕ) → (is_got answer ≡ true → IsPiece M demo_unit piece) → ClientCameTo w bytes → ClientCameTo (heard_by line piece answer w) bytes
+  heard_told line piece (Got count) w bytes is_piece is = hears_told line (of_unit demo_unit (blocks_of piece)) w bytes (ours_all (blocks_of piece) (is_piece refl).blocks) is
+  heard_told line piece Quiet w bytes is_piece is = is
+  heard_told line piece End w bytes is_piece is = is
+  heard_told line piece Failed w bytes is_piece is = is
+
+  connected_told : ClientCameTo connected []
+  connected_told = record { came = client.SpinMade ∷ client.GrpMade ∷ []; client_is = refl; bytes_are = refl; from = (tt, (tt, tt)) }
+
+  -- ---- Along a run that led to this scene, over a net that carried what it was given
+  module _ (s : Setting) (R : Scene) (pieces : (line : Line) (datagram : List ℕ) → Contains (line_in line R).came datagram → IsPiece M demo_unit datagram) (said : (bytes : List ℕ) → Begins bytes R.spin_client.came → IsSaid M demo_unit bytes) where
+    came_piece : (line : Line) (came : List (List ℕ)) (bytes : List ℕ) (answer : NetTaken) → Begins (came ++ came_by answer bytes) (line_in line R).came → is_got answer ≡ true → IsPiece M demo_unit bytes
+    came_piece line came bytes (Got count) begins got = pieces line bytes (subst (λ (ds : List (List ℕ)). Contains ds bytes) (sym begins.1) (Contains-append_left (came ++ bytes ∷ []) begins.0 bytes (Contains-push came bytes)))
+    came_piece line came bytes Quiet begins got = absurd (cc)
+    came_piece line came bytes End begins got = absurd (cc)
+    came_piece line came bytes Failed begins got = absurd (cc)
+
+    client_more : (step : Step) (n : Scene) → IsBefore (scene_after s step n) R → ClientCameTo n.world n.spin_client.came → ClientCameTo (scene_after s step n).world (scene_after s step n).spin_client.came
+    client_more (Did (Begin answer)) n before is = is
+    client_more (Did (Send A datagram answer)) n before is = is
+    client_more (Did (Send B datagram answer)) n before is = is
+    client_more (Did (Send Gap datagram answer)) n before is = is
+    client_more (Did (Next A room bytes answer)) n before is = heard_told A bytes answer n.world n.spin_client.came (came_piece A n.a.came bytes answer before.a) is
+    client_more (Did (Next B room bytes answer)) n before is = heard_told B bytes answer n.world n.spin_client.came (came_piece B n.b.came bytes answer before.b) is
+    client_more (Did (Next Gap room bytes answer)) n before is = heard_told Gap bytes answer n.world n.spin_client.came (came_piece Gap n.gap.came bytes answer before.gap) is
+    client_more (Did (Put GrpClient piece answer)) n before is = told_same n.world _ n.spin_client.came refl is
+    client_more (Did (Put GrpServer piece answer)) n before is = told_same n.world _ n.spin_client.came refl is
+    client_more (Did (Put SpinClient piece answer)) n before is = told_same n.world _ n.spin_client.came refl is
+    client_more (Did (Put SpinServer piece answer)) n before is = told_same n.world _ n.spin_client.came refl is
+    client_more (Did (Take GrpClient room bytes answer)) n before is = grp_told bytes answer n.world n.spin_client.came is
+    client_more (Did (Take GrpServer room bytes answer)) n before is = answers_told Grp bytes answer n.world n.spin_client.came is
+    client_more (Did (Take SpinServer room bytes answer)) n before is = serves_told bytes answer (is_group_open (answer ∷ n.spin_server.answers)) n.world n.spin_client.came is
+    client_more (Did (Take SpinClient room bytes (Got count))) n before is = spin_told bytes count n.world n.spin_client.came (said (n.spin_client.came ++ bytes) before.spin) is
+    client_more (Did (Take SpinClient room bytes Quiet)) n before is = none_more n.world n.spin_client.came is
+    client_more (Did (Take SpinClient room bytes End)) n before is = spin_ends bytes n.world n.spin_client.came is
+    client_more (Did (Take SpinClient room bytes Failed)) n before is = none_more n.world n.spin_client.came is
+    client_more (Beat heartbeat answer) n before is =
+        let bytes : List ℕ = n.spin_client.came in
+        let told : State = venue_has demo_unit default_limits Advertised n.world in
+        let passed : State = seconds demo_unit default_limits told in
+        let second : ClientCameTo passed bytes = record { came = client.Second ∷ is.came; client_is = ap (end_step demo_client client.Second) is.client_is; bytes_are = is.bytes_are; from = (tt, is.from) } in
+        settled_told Spin (settled demo_unit default_limits Grp passed) bytes (settled_told Grp passed bytes second)
+    client_more Turn n before is = published_told s (suc n.turn) n.world n.spin_client.came is
+
+    client_all : (run : List Step) → IsBefore (scene_of s run) R → ClientCameTo (scene_of s run).world (scene_of s run).spin_client.came
+    client_all [] before = published_told s 1 connected [] connected_told
+    client_all (step ∷ run) before = client_more step (scene_of s run) before (client_all run (before_then (scene_of s run) (scene_of s (step ∷ run)) R (grows s step (scene_of s run)) before))
+
+-- ---- So the client was told the truth
+pub carried_is_honest : (s : Setting) (run : List Step) → s.count ≤ 1000 → AreSteps s run → s.count < (scene_of s run).turn → IsCarried (scene_of s run) → Honest image (all_messages s) (scene_of s run).world.client.heard
+carried_is_honest s run few steps above carried =
+    let R : Scene = scene_of s run in
+    let M : List Raw = all_messages s in
+    let z = venue_all s run steps in
+    let every : accepted s R.turn ≡ s.count = omega (arith, above) in
+    let all : (venue_after demo_venue z.came).messages ≡ M = ap (λ (v : VenueState). v.messages) (sym z.venue_is) ∙ (stood s few run).sent.accepted ∙ ap (λ (n : ℕ). all_messages (record s { count = n })) every in
+    let put : IsSaid M demo_unit R.spin_server.put = subst (λ (l : List ℕ). IsSaid M demo_unit l) z.put_is (subst (λ (V : List Raw). IsSaid V demo_unit (put_of demo_venue the_session z.came)) all (put_is_said demo_venue z.came the_session (omega arith))) in
+    let pieces : (line : Line) (d : List ℕ) → Contains (line_in line R).came d → IsPiece M demo_unit d =
+    λ line d came. All-contains (IsPiece M demo_unit) (line_in line R).sent d (All-from_recursion (IsPiece M demo_unit) (line_in line R).sent (sent_pieces s run steps line)) (carried.lines line d came) in
+    let late = carried.ends SpinClient in
+    let said : (bytes : List ℕ) → Begins bytes R.spin_client.came → IsSaid M demo_unit bytes =
+    λ bytes begins. record {
+      setup = put.setup;
+      server = put.server;
+      unit_is = put.unit_is;
+      happened = put.happened;
+      served = put.served;
+      begins = prefix_on bytes R.spin_server.put _ (begins.0 ++ late.0, sym (late.1 ∙ ap (λ (l : List ℕ). l ++ late.0) begins.1 ∙ append_assoc bytes begins.0 late.0)) put.begins;
+    } in
+    let told = client_all M s R pieces said run (before_same R) in
+    let size : length M ≤ last_sequence = (let many = all_many s in omega (arith, many, few)) in
+    subst (λ (e : EndState). Honest image M e.heard) (sym told.client_is)
+    (served_is_whole M demo_client told.came (record { bytes = plan_bytes s.number demo_unit s.count (omega (arith, few)); top = size }) told.from).honest

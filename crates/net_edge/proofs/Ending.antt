@@ -1,54 +1,35 @@
 -- A run that ended is a demo.
-use Rattle.std.proofs.Common.{◌≡◌, ℕ, ◌<◌, ◌≤◌, ◌++◌, List, Option, None, Some, Result, Ok, Err, refl, sym, ap, ◌∙◌, subst, arith, length}
+use Rattle.std.proofs.Common.{◌≡◌, ℕ, ◌<◌, ◌≤◌, ◌++◌, List, take, Option, None, Some, Result, Ok, Err, refl, sym, ap, ◌∙◌, subst, arith}
 use Rattle.std.proofs.lemmas.Bool.{false≢true}
-use Rattle.std.specs.FinMap as map
-use Rattle.std.specs.Result.{IsErr, IsErrAnd}
 use Rattle.std.specs.List.{AllByRecursion}
-use Rattle.pitch_fields.specs.Fields.{AreBytes}
-use Rattle.pitch_fields.specs.Limits.{last_sequence}
+use Rattle.std.specs.Result.{IsErr, IsErrAnd}
 use Rattle.pitch_io.specs.declared.line.Line.{Line}
 use Rattle.pitch_io.specs.declared.line.Line.TheVariants.{A, B, Gap}
 use Rattle.pitch_io.specs.Nets.{Call}
 use Rattle.pitch_messages.specs.Raw.{IsRaw}
+use Rattle.pitch_model.specs.Book.{book_after}
 use Rattle.pitch_model.specs.History.{Raw}
-use Rattle.pitch_model.specs.Levels.{shares}
-use Rattle.pitch_model.specs.Status.{status_of}
+use Rattle.pitch_model.specs.Honest.{Honest}
+use Rattle.pitch_model.specs.Image.{image}
+use Rattle.pitch_model.specs.Reach.{reach}
 use Rattle.venue_core.specs.Plan.{plan}
-use Rattle.venue_core.proofs.PlanBytes.{plan_bytes}
-use Rattle.client_core.specs.Client.{current_book}
 use Rattle.feed_lines.specs.UnitLine.{unit_line}
 use Rattle.net_edge.specs.Acting.{scene_of}
-use Rattle.net_edge.specs.Demo.{IsDemo, EndsDemo, IsLast, AddsCalls, all_messages, AreShort}
-use Rattle.net_edge.specs.Due.{Setting, demo_unit, hold_limit, accepted}
-use Rattle.net_edge.specs.layers.Markets.{SideAt}
-use Rattle.net_edge.specs.layers.Playing.{DemoAt, EndsHave, ListsCalls, calls_before}
-use Rattle.net_edge.specs.layers.Sending.{DoesDemo}
+use Rattle.net_edge.specs.Demo.{IsDemo, EndsDemo, IsLast, AddsCalls, AreShort, AreTotalsOf, all_messages}
+use Rattle.net_edge.specs.Due.{Setting, accepted, demo_unit, hold_limit}
 use Rattle.net_edge.specs.Scene.{Scene, line_in}
 use Rattle.net_edge.specs.Steps.{Step}
 use Rattle.net_edge.specs.Turns.{AreSteps, IsOver, client_status}
-use Rattle.net_edge.specs.declared.ends.Ends.{Ends}
 use Rattle.net_edge.specs.declared.error.DemoError.{DemoError}
 use Rattle.net_edge.specs.declared.error.DemoError.TheVariants as errors
+use Rattle.net_edge.specs.layers.Ends.{AreMessages}
+use Rattle.net_edge.specs.layers.Playing.{IsAllSent, ListsCalls, Plays, calls_before}
+use Rattle.net_edge.specs.layers.Sending.{AreTotalsIfHonest, DoesDemo}
+use Rattle.net_edge.proofs.Carried.{carried_is_honest}
 use Rattle.net_edge.proofs.Feeding.{sent_pieces}
 use Rattle.net_edge.proofs.Fitting.{due_short, replied_short}
-use Rattle.net_edge.proofs.Carried.{carried_book}
 use Rattle.net_edge.proofs.Sending.{none_called}
-
--- what the venue's messages are
-record AreMessages (V : List Raw) : Type 0 where
-  raws : AllByRecursion IsRaw V
-  bytes : AllByRecursion AreBytes V
-  few : length V ≤ last_sequence
-
--- after the last message all were accepted
-all_accepted : {M : Type 0} (has : M → List Raw → List ℕ → Type 0) (s : Setting) (market : M) (turn : ℕ) → s.count ≤ 1000 → s.count < turn → SideAt has s market turn → AreMessages (all_messages s)
-all_accepted has s market turn few above at =
-    let every : accepted s turn ≡ s.count = omega (arith, above) in
-    record {
-      raws = subst (λ (n : ℕ). AllByRecursion IsRaw (plan s.number demo_unit n)) every at.raws;
-      bytes = plan_bytes s.number demo_unit s.count (omega (arith, few));
-      few = subst (λ (n : ℕ). length (plan s.number demo_unit n) ≤ last_sequence) every at.few;
-    }
+use Rattle.net_edge.proofs.Standing.{stood}
 
 adds : (before after : Option (List Call)) (run : List Step) → ListsCalls (calls_before before) after run → AddsCalls run before after
 adds None None run told = tt
@@ -56,40 +37,45 @@ adds None (Some calls) run told = tt
 adds (Some calls) None run told = tt
 adds (Some before) (Some after) run told = told
 
-all_are_short : (s : Setting) (ends : Ends) (run : List Step) → AreMessages (all_messages s) → EndsHave ends (scene_of s run) → IsOver s (scene_of s run) → (line : Line) → AreShort (line_in line (scene_of s run)).sent
-all_are_short s ends run are has over A = subst AreShort (sym over.on_a) (due_short s are.raws A (scene_of s run).turn)
-all_are_short s ends run are has over B = subst AreShort (sym over.on_b) (due_short s are.raws B (scene_of s run).turn)
-all_are_short s ends run are has over Gap = subst AreShort (sym has.replayed) (replied_short s are.raws run)
+-- after the last message all were accepted
+all_accepted : (s : Setting) (now : Scene) → s.count < now.turn → IsAllSent s now.turn now.world → now.world.venue.messages ≡ all_messages s
+all_accepted s now above sent =
+    let every : accepted s now.turn ≡ s.count = omega (arith, above) in
+    sent.accepted ∙ ap (plan s.number demo_unit) every
 
-run_ends : {M : Type 0} (has : M → List Raw → List ℕ → Type 0) (s : Setting) (ends : Ends) (market : M) (run : List Step) → s.count ≤ 1000 → AreSteps s run → EndsHave ends (scene_of s run) → IsOver s (scene_of s run) → IsLast s (scene_of s run) → SideAt has s market (scene_of s run).turn
-    → EndsDemo s (scene_of s run) (map.len (current_book ends.client).orders) (shares (current_book ends.client))
-run_ends has s ends market run few steps ends_have over last at =
-    let R : Scene = scene_of s run in
-    let are : AreMessages (all_messages s) = all_accepted has s market R.turn few last.above at in
-    let pieces = sent_pieces s run steps in
-    record {
-      over = over;
-      last = last;
-      pieces = pieces;
-      short = all_are_short s ends run are ends_have over;
-      book = λ carried. carried_book s run carried over.put pieces ends.client are.bytes are.few steps ends_have.client;
-    }
+module _ (s : Setting) (run : List Step) (few : s.count ≤ 1000) (steps : AreSteps s run) (over : IsOver s (scene_of s run)) (last : IsLast s (scene_of s run)) where
+  all_are_short : AllByRecursion IsRaw (all_messages s) → (line : Line) → AreShort (line_in line (scene_of s run)).sent
+  all_are_short raws A = subst AreShort (sym over.on_a) (due_short s raws A (scene_of s run).turn)
+  all_are_short raws B = subst AreShort (sym over.on_b) (due_short s raws B (scene_of s run).turn)
+  all_are_short raws Gap = subst AreShort (sym over.replayed) (replied_short s raws few run)
 
-pub demo_is : {M : Type 0} (has : M → List Raw → List ℕ → Type 0) (s : Setting) (before after : Option (List Call)) (text text' : List ℕ) (ends : Ends) (market : M) (now : Scene) → s.count ≤ 1000 → DemoAt s (calls_before before) after ends now → IsOver s now → IsLast s now → SideAt has s market now.turn
-    → text' ≡ text ++ unit_line demo_unit (status_of hold_limit now.heard) (map.len (current_book ends.client).orders) (shares (current_book ends.client)) → IsDemo s before after text text'
-demo_is has s before after text text' ends market now few at over last stands printed =
-    let run : List Step = at.plays.0 in
-    let led = at.plays.1 in
+  run_ends : (orders quantity : ℕ) → AreMessages (scene_of s run).world.venue.messages → AreTotalsIfHonest (scene_of s run).world orders quantity → EndsDemo s (scene_of s run) orders quantity
+  run_ends orders quantity are totals =
+      let R : Scene = scene_of s run in
+      let all : R.world.venue.messages ≡ all_messages s = all_accepted s R last.above (stood s few run).sent in
+      record {
+        over = over;
+        last = last;
+        pieces = sent_pieces s run steps;
+        short = all_are_short (subst (AllByRecursion IsRaw) all are.raws);
+        book = λ carried.
+            subst (λ (V : List Raw). AreTotalsOf (book_after (take (reach hold_limit R.world.client.heard) V)) orders quantity) all
+            (totals (subst (λ (V : List Raw). Honest image V R.world.client.heard) (sym all) (carried_is_honest s run few steps last.above carried)));
+      }
+
+pub demo_is : (s : Setting) (before after : Option (List Call)) (text text' : List ℕ) (now : Scene) (orders quantity : ℕ) → s.count ≤ 1000 → Plays s (calls_before before) after now → IsOver s now → IsLast s now → AreMessages now.world.venue.messages → AreTotalsIfHonest now.world orders quantity
+    → text' ≡ text ++ unit_line demo_unit (client_status now) orders quantity → IsDemo s before after text text'
+demo_is s before after text text' now orders quantity few plays over last are totals printed =
+    let run : List Step = plays.0 in
+    let led = plays.1 in
     let back : now ≡ scene_of s run = sym led.now_is in
-    let orders : ℕ = map.len (current_book ends.client).orders in
-    let quantity : ℕ = shares (current_book ends.client) in
     record {
       run = run;
       calls = adds before after run led.told;
       steps = led.steps;
       orders = orders;
       quantity = quantity;
-      end = run_ends has s ends market run few led.steps (subst (EndsHave ends) back at.has) (subst (IsOver s) back over) (subst (IsLast s) back last) (subst (λ (n : Scene). SideAt has s market n.turn) back stands);
+      end = run_ends s run few led.steps (subst (IsOver s) back over) (subst (IsLast s) back last) orders quantity (subst (λ (n : Scene). AreMessages n.world.venue.messages) back are) (subst (λ (n : Scene). AreTotalsIfHonest n.world orders quantity) back totals);
       printed = printed ∙ ap (λ (n : Scene). text ++ unit_line demo_unit (client_status n) orders quantity) back;
     }
 

@@ -1,6 +1,6 @@
 -- A run over a plan without messages: ten turns in which nothing comes but, in the last, the
 -- heartbeat on line A. And runs that break off at their first call.
-use Rattle.std.proofs.Common.{◌≡◌, ℕ, zero, suc, ◌+◌, ◌⊎◌, Bool, true, false, inl, inr, List, [], ◌∷◌, length, refl, sym, ap, arith, lit<, lit≤}
+use Rattle.std.proofs.Common.{◌≡◌, ℕ, zero, suc, ◌+◌, ◌⊎◌, Bool, true, false, inl, inr, List, [], ◌∷◌, length, map, refl, sym, ap, arith, lit<, lit≤}
 use Rattle.std.proofs.lemmas.Bool.{false≢true}
 use Rattle.std.specs.Prelude.{replicate}
 use Rattle.pitch_io.specs.declared.line.Line.TheVariants.{A, B, Gap}
@@ -16,12 +16,15 @@ use Rattle.pitch_messages.specs.Raw.{raws_of}
 use Rattle.unit_packets.specs.Cutting.{blocks_of, blocks_by}
 use Rattle.unit_packets.specs.Judging.{judge, messages_end}
 use Rattle.unit_packets.specs.Blocks.{Block}
-use Rattle.net_edge.specs.Acting.{is_group_open, ours, scene_of}
+use Rattle.sending_end.specs.Waiting.{of_unit}
+use Rattle.grp_session.specs.Serving.{Source}
+use Rattle.venue_end.specs.Sessions.{Session}
+use Rattle.net_edge.specs.Acting.{is_group_open, scene_of}
 use Rattle.net_edge.specs.Breaking.{BreaksOff}
 use Rattle.net_edge.specs.Demo.{IsLast}
 use Rattle.net_edge.specs.Scene.{Scene, first_scene}
 use Rattle.venue_core.specs.Plan.{plan}
-use Rattle.net_edge.specs.Due.{Setting, IsDuePiece, advertised_until, beat, messages, ticks}
+use Rattle.net_edge.specs.Due.{Setting, IsDuePiece, beat, messages, ticks}
 use Rattle.net_edge.specs.Steps.{Step, Did, Beat, Turn}
 use Rattle.net_edge.specs.Turns.{client_status}
 use Rattle.net_edge.specs.declared.error.DemoError.TheVariants as errors
@@ -48,24 +51,24 @@ run : List Step
 run = heard (Did (Next A 65535 heartbeat (taken.Got 8)) ∷ served (Beat heartbeat done.Done ∷ Did (Send A heartbeat done.Done) ∷ quiet_turns 9))
 
 turn_is : (scene_of s run).turn ≡ 10
-unfolding s heartbeat served heard quiet_turns run
+unfolding s heartbeat served heard quiet_turns run blocks_of blocks_by judge messages_end raws_of
 turn_is = refl
 
 beat_is : beat s 10 ≡ heartbeat
 unfolding s heartbeat block_bytes
 beat_is = refl
 
-advertised_is : advertised_until s 10 ≡ 0 ∷ []
-unfolding s
+advertised_is : (scene_of s run).world.venue.advertised ≡ 0 ∷ []
+unfolding s heartbeat served heard quiet_turns run blocks_of blocks_by judge messages_end raws_of
 advertised_is = refl
 
-ticked_is : (scene_of s run).ticked ≡ ticks 10
-unfolding s heartbeat served heard quiet_turns run
+ticked_is : (scene_of s run).world.venue.spent.now ≡ ticks 10
+unfolding s heartbeat served heard quiet_turns run blocks_of blocks_by judge messages_end raws_of
 ticked_is = refl
 
--- the proxy ticked; the spin server was told of an empty image and ticked
-proxy_is : (scene_of s run).grp.server ≡ Ticked ∷ []
-unfolding s heartbeat served heard quiet_turns run
+-- the proxy ticked
+proxy_is : map (λ (k : Session Source). k.happened) (scene_of s run).world.venue.proxies ≡ (Ticked ∷ []) ∷ []
+unfolding s heartbeat served heard quiet_turns run blocks_of blocks_by judge messages_end raws_of
 proxy_is = refl
 
 silent_before : client_status (scene_of s (quiet_turns 9)) ≡ Silent
@@ -107,7 +110,7 @@ not_of_a_later_message piece =
 -- ---- The last turn
 -- nothing was heard up to a turn
 abbrev silent_at : ℕ → Scene
-silent_at turn = record first_scene { turn = turn }
+silent_at turn = record (first_scene s) { turn = turn }
 
 abbrev is_silent : Status → Bool
 is_silent Silent = true
@@ -138,8 +141,8 @@ none_behind_an_end : is_group_open (taken.End ∷ taken.Got 1 ∷ []) ≡ false
 none_behind_an_end = refl
 
 -- ---- Blocks of another unit
-abbrev of_unit : ℕ → Block
-of_unit unit = record { unit = unit; sequence = 1; raws = [] }
+abbrev next_of : ℕ → Block
+next_of unit = record { unit = unit; sequence = 1; raws = [] }
 
-they_are_passed_over : ours (of_unit 2 ∷ of_unit 1 ∷ of_unit 0 ∷ []) ≡ of_unit 1 ∷ []
+they_are_passed_over : of_unit 1 (next_of 2 ∷ next_of 1 ∷ next_of 0 ∷ []) ≡ next_of 1 ∷ []
 they_are_passed_over = refl

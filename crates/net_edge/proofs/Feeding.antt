@@ -1,13 +1,11 @@
 -- What a run sends on the lines are pieces of the venue's feed.
-use Rattle.std.proofs.Common.{◌≡◌, ℕ, ◌+◌, ◌-◌, ◌≤◌, ◌++◌, List, [], ◌∷◌, length, drop, refl, sym, ap, ◌∙◌, subst, arith}
+use Rattle.std.proofs.Common.{◌≡◌, ℕ, ◌+◌, ◌-◌, ◌++◌, List, [], ◌∷◌, length, drop, sym, ap, ◌∙◌, subst, arith}
 use Rattle.std.specs.List.{AllByRecursion}
 use Rattle.std.proofs.lemmas.List.{take-append-drop}
 use Rattle.pitch_fields.proofs.Lists.{all_split}
-use Rattle.pitch_fields.specs.Limits.{last_sequence}
 use Rattle.pitch_io.specs.declared.line.Line.{Line}
 use Rattle.pitch_io.specs.declared.line.Line.TheVariants.{A, B, Gap}
 use Rattle.pitch_io.specs.declared.net.LinkEnd.TheVariants.{GrpClient, GrpServer, SpinClient, SpinServer}
-use Rattle.pitch_io.specs.declared.net.NetTaken.TheVariants.{Got, Quiet, End, Failed}
 use Rattle.pitch_io.specs.Nets.{Begin, Send, Next, Put, Take}
 use Rattle.pitch_messages.specs.Raw.{IsRaw}
 use Rattle.pitch_model.specs.History.{Raw}
@@ -16,13 +14,10 @@ use Rattle.heard_items.proofs.Datagrams.{piece_more}
 use Rattle.venue_core.specs.Plan.{plan}
 use Rattle.venue_core.proofs.PlanBooks.{plan_length}
 use Rattle.venue_core.proofs.PlanBytes.{plan_prefix}
-use Rattle.venue_end.specs.Servers.{proxy_setup}
 use Rattle.grp_session.proofs.Pieces.{Pieces, pieces_append}
-use Rattle.grp_session.proofs.Replies.{proxy_pieces, views_same}
-use Rattle.net_edge.specs.Acting.{scene_after, scene_of, source_at}
+use Rattle.net_edge.specs.Acting.{scene_after, scene_of}
 use Rattle.net_edge.specs.Demo.{all_messages}
-use Rattle.net_edge.specs.Due.{Setting, IsDuePiece, AreDuePieces, demo_unit, demo_setup, accepted, messages, gap_view}
-use Rattle.net_edge.specs.layers.Playing.{proxy_said}
+use Rattle.net_edge.specs.Due.{Setting, IsDuePiece, demo_unit, accepted, messages}
 use Rattle.net_edge.specs.Scene.{Scene, line_in}
 use Rattle.net_edge.specs.Steps.{Step, Did, Beat, Turn}
 use Rattle.net_edge.specs.Turns.{AreSteps, MayCome}
@@ -39,22 +34,12 @@ messages_first s turn =
     subst (λ (n : ℕ). plan s.number demo_unit n ≡ plan s.number demo_unit k ++ drop k (plan s.number demo_unit n)) e
     (sym (take-append-drop k (plan s.number demo_unit (k + (s.count - k)))) ∙ ap (λ (rs : List Raw). rs ++ drop k (plan s.number demo_unit (k + (s.count - k)))) (plan_prefix s.number demo_unit k (s.count - k)))
 
--- they are as many as were accepted
-pub messages_many : (s : Setting) (turn : ℕ) → length (messages s turn) ≡ accepted s turn
-messages_many s turn = plan_length s.number demo_unit (accepted s turn)
-
 pub all_many : (s : Setting) → length (all_messages s) ≡ s.count
 all_many s = plan_length s.number demo_unit s.count
 
 -- ---- Where they are raws
 pub raws_at : (s : Setting) → AllByRecursion IsRaw (all_messages s) → (turn : ℕ) → AllByRecursion IsRaw (messages s turn)
 raws_at s raws turn = (all_split IsRaw (messages s turn) (later_messages s turn) (subst (AllByRecursion IsRaw) (messages_first s turn) raws)).0
-
--- what the proxy answers are pieces
-pub reply_pieces : (s : Setting) (bytes : List ℕ) (now : Scene) → AllByRecursion IsRaw (messages s now.turn) → length (messages s now.turn) ≤ last_sequence → AreDuePieces s now.turn (proxy_said s bytes now).lines
-reply_pieces s bytes now raws few =
-    proxy_pieces (messages s now.turn) demo_unit (omega arith) raws few (proxy_setup demo_setup) now.grp.server bytes (source_at s bytes now) refl
-    (views_same _ (gap_view s now.turn) (messages s now.turn) refl)
 
 -- ---- What was sent
 module _ (s : Setting) where
@@ -81,19 +66,10 @@ module _ (s : Setting) where
   sends_pieces (Did (Put GrpServer piece answer)) n may p = p
   sends_pieces (Did (Put SpinClient piece answer)) n may p = p
   sends_pieces (Did (Put SpinServer piece answer)) n may p = p
-  sends_pieces (Did (Take GrpServer room bytes (Got count))) n may p = p
-  sends_pieces (Did (Take GrpServer room bytes Quiet)) n may p = p
-  sends_pieces (Did (Take GrpServer room bytes End)) n may p = p
-  sends_pieces (Did (Take GrpServer room bytes Failed)) n may p = p
+  sends_pieces (Did (Take GrpClient room bytes answer)) n may p = p
+  sends_pieces (Did (Take GrpServer room bytes answer)) n may p = p
+  sends_pieces (Did (Take SpinClient room bytes answer)) n may p = p
   sends_pieces (Did (Take SpinServer room bytes answer)) n may p = p
-  sends_pieces (Did (Take GrpClient room bytes (Got count))) n may p = p
-  sends_pieces (Did (Take GrpClient room bytes Quiet)) n may p = p
-  sends_pieces (Did (Take GrpClient room bytes End)) n may p = p
-  sends_pieces (Did (Take GrpClient room bytes Failed)) n may p = p
-  sends_pieces (Did (Take SpinClient room bytes (Got count))) n may p = p
-  sends_pieces (Did (Take SpinClient room bytes Quiet)) n may p = p
-  sends_pieces (Did (Take SpinClient room bytes End)) n may p = p
-  sends_pieces (Did (Take SpinClient room bytes Failed)) n may p = p
   sends_pieces (Beat heartbeat answer) n may p = (p.0, one_more n.b.sent heartbeat n.turn p.1 may.3, p.2)
   sends_pieces Turn n may p = p
 

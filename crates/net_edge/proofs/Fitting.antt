@@ -1,10 +1,12 @@
 -- No datagram that a demo sends is longer than a packer makes one.
-use Rattle.std.proofs.Common.{◌≡◌, ℕ, zero, suc, ◌+◌, ◌-◌, ◌≤◌, ◌++◌, Bool, true, false, ◌||◌, cond, eqb, List, [], ◌∷◌, length, drop, refl, arith, is_some, length-append}
+use Rattle.std.proofs.Common.{◌≡◌, ℕ, zero, suc, ◌+◌, ◌-◌, ◌≤◌, ◌++◌, Bool, true, false, ◌||◌, cond, eqb, List, [], ◌∷◌, length, drop, refl, arith, is_some, length-append, Option, None, Some, sym, ◌∙◌, subst}
 use Rattle.std.specs.List.{AllByRecursion, concat}
+use Rattle.std.specs.Prelude.{nat_le}
 use Rattle.pitch_fields.proofs.Lists.{all_take, all_drop, all_replicate}
 use Rattle.pitch_io.specs.declared.line.Line.{Line}
 use Rattle.pitch_io.specs.declared.line.Line.TheVariants.{A, B, Gap}
 use Rattle.pitch_io.specs.declared.net.LinkEnd.TheVariants.{GrpClient, GrpServer, SpinClient, SpinServer}
+use Rattle.pitch_io.specs.declared.net.NetTaken.{NetTaken}
 use Rattle.pitch_io.specs.declared.net.NetTaken.TheVariants.{Got, Quiet, End, Failed}
 use Rattle.pitch_io.specs.Nets.{Begin, Send, Next, Put, Take}
 use Rattle.pitch_messages.specs.Raw.{IsRaw}
@@ -29,13 +31,26 @@ use Rattle.grp_session.specs.Asking.{datagrams_of}
 use Rattle.grp_session.specs.Budget.{Limits, Spent}
 use Rattle.grp_session.specs.Serving.{Source, message_answer, said_answer, grp_answer, proxy_answer}
 use Rattle.venue_core.specs.Losses.{is_lost}
+use Rattle.venue_core.specs.Plan.{plan_command}
+use Rattle.pitch_text.specs.declared.verb.Session.{Session as Kind}
+use Rattle.pitch_text.specs.declared.verb.Session.TheVariants.{Grp, Spin}
+use Rattle.pitch_text.specs.declared.verb.Verb.TheVariants as verbs
+use Rattle.sending_end.specs.Waiting.{took}
+use Rattle.venue_end.specs.Came.{VenueState, answers_in, proxy_source}
 use Rattle.venue_end.specs.Servers.{proxy_setup}
-use Rattle.net_edge.specs.Acting.{scene_after, scene_of, source_at}
+use Rattle.venue_end.specs.Sessions.{Session, session_of}
+use Rattle.world_model.specs.Ends.{at_client, default_limits, server_cut, stands, the_session}
+use Rattle.world_model.specs.State.{State}
+use Rattle.world_model.specs.Verbs.{client_has, seconds, settled, venue_has}
+use Rattle.net_edge.specs.Acting.{is_group_open, link_takes, scene_after, scene_of}
 use Rattle.net_edge.specs.Demo.{all_messages, AreShort}
-use Rattle.net_edge.specs.Due.{Setting, demo_unit, demo_setup, accepted, messages, new_datagrams, copies, line_number, beat, beats, is_tenth, due, gap_view}
-use Rattle.net_edge.specs.Scene.{Scene}
+use Rattle.net_edge.specs.Due.{Setting, demo_unit, accepted, messages, new_datagrams, copies, line_number, beat, beats, is_tenth, due}
+use Rattle.net_edge.specs.Scene.{Scene, connected, done_with, published}
+use Rattle.net_edge.specs.layers.Ends.{demo_venue}
 use Rattle.net_edge.specs.Steps.{Step, Did, Beat, Turn}
 use Rattle.net_edge.proofs.Feeding.{raws_at}
+use Rattle.net_edge.proofs.Standing.{stood}
+use Rattle.net_edge.proofs.Taking.{heard_replayed, served_replayed}
 
 short_append : (xs ys : List (List ℕ)) → AreShort xs → AreShort ys → AreShort (xs ++ ys)
 short_append [] ys a b = b
@@ -126,37 +141,56 @@ module _ (s : Setting) (raws : AllByRecursion IsRaw (all_messages s)) where
   due_short line (suc turn) = short_append (due s line turn) (copies s line (suc turn) ++ beats s (suc turn)) (due_short line turn) (turn_short line (suc turn))
 
   -- a step adds short ones to what the proxy has for the gap line
-  replies_short : (step : Step) (n : Scene) → AreShort n.replayed → AreShort (scene_after s step n).replayed
-  replies_short (Did (Begin answer)) n p = p
-  replies_short (Did (Send A datagram answer)) n p = p
-  replies_short (Did (Send B datagram answer)) n p = p
-  replies_short (Did (Send Gap datagram answer)) n p = p
-  replies_short (Did (Next A room bytes answer)) n p = p
-  replies_short (Did (Next B room bytes answer)) n p = p
-  replies_short (Did (Next Gap room bytes answer)) n p = p
-  replies_short (Did (Put GrpClient piece answer)) n p = p
-  replies_short (Did (Put GrpServer piece answer)) n p = p
-  replies_short (Did (Put SpinClient piece answer)) n p = p
-  replies_short (Did (Put SpinServer piece answer)) n p = p
-  replies_short (Did (Take GrpServer room bytes (Got count))) n p =
-      let source : Source = source_at s bytes n in
-      short_append n.replayed (proxy_answer (proxy_setup demo_setup) n.grp.server bytes source).lines p
-      (proxy_short (proxy_setup demo_setup) n.grp.server bytes source (all_replicate AreRawsOf (length (new_items n.grp.server bytes)) (gap_view s n.turn) (raws_at s raws n.turn)))
-  replies_short (Did (Take GrpServer room bytes Quiet)) n p = p
-  replies_short (Did (Take GrpServer room bytes End)) n p = p
-  replies_short (Did (Take GrpServer room bytes Failed)) n p = p
-  replies_short (Did (Take SpinServer room bytes answer)) n p = p
-  replies_short (Did (Take GrpClient room bytes (Got count))) n p = p
-  replies_short (Did (Take GrpClient room bytes Quiet)) n p = p
-  replies_short (Did (Take GrpClient room bytes End)) n p = p
-  replies_short (Did (Take GrpClient room bytes Failed)) n p = p
-  replies_short (Did (Take SpinClient room bytes (Got count))) n p = p
-  replies_short (Did (Take SpinClient room bytes Quiet)) n p = p
-  replies_short (Did (Take SpinClient room bytes End)) n p = p
-  replies_short (Did (Take SpinClient room bytes Failed)) n p = p
-  replies_short (Beat heartbeat answer) n p = p
-  replies_short Turn n p = p
+  answered_short : (now : VenueState) (turn : ℕ) (bytes : List ℕ) (o : Option (Session Source)) → now.messages ≡ messages s turn → AreShort (answers_in demo_venue now bytes o).lines
+  answered_short now turn bytes None same = tt
+  answered_short now turn bytes (Some session) same =
+      proxy_short (proxy_setup demo_venue) session.happened bytes (proxy_source demo_venue now session.happened bytes)
+      (all_replicate AreRawsOf (length (new_items session.happened bytes)) (record { messages = now.messages; kept = demo_venue.kept }) (subst (AllByRecursion IsRaw) (sym same) (raws_at s raws turn)))
 
-  pub replied_short : (run : List Step) → AreShort (scene_of s run).replayed
-  replied_short [] = tt
-  replied_short (step ∷ run) = replies_short step (scene_of s run) (replied_short run)
+  settled_replayed : (session : Kind) (w : State) → (settled demo_unit default_limits session w).replayed ≡ w.replayed
+  settled_replayed session w = by (stands session w.client)
+    where
+      by : (b : Bool) → (cond b w (venue_has demo_unit default_limits (server_cut session) w)).replayed ≡ w.replayed
+      by true = refl
+      by false = refl
+
+  links_replayed : (session : Kind) (bytes : List ℕ) (answer : NetTaken) (w : State) → (link_takes session bytes answer w).replayed ≡ w.replayed
+  links_replayed session bytes (Got count) w = settled_replayed session (client_has demo_unit default_limits (took (at_client session) bytes) w)
+  links_replayed session bytes Quiet w = refl
+  links_replayed session bytes End w = refl
+  links_replayed session bytes Failed w = refl
+
+  published_replayed : (turn : ℕ) (w : State) → (published s turn w).replayed ≡ w.replayed
+  published_replayed turn w = by (nat_le turn s.count)
+    where
+      by : (b : Bool) → (cond b (done_with verbs.Flush (done_with (verbs.Command (plan_command s.number demo_unit turn)) w)) w).replayed ≡ w.replayed
+      by true = refl
+      by false = refl
+
+  replies_short : (step : Step) (n : Scene) → n.world.venue.messages ≡ messages s n.turn → AreShort n.world.replayed → AreShort (scene_after s step n).world.replayed
+  replies_short (Did (Begin answer)) n same p = p
+  replies_short (Did (Send A datagram answer)) n same p = p
+  replies_short (Did (Send B datagram answer)) n same p = p
+  replies_short (Did (Send Gap datagram answer)) n same p = p
+  replies_short (Did (Next A room bytes answer)) n same p = subst AreShort (sym (heard_replayed A bytes answer n.world)) p
+  replies_short (Did (Next B room bytes answer)) n same p = subst AreShort (sym (heard_replayed B bytes answer n.world)) p
+  replies_short (Did (Next Gap room bytes answer)) n same p = subst AreShort (sym (heard_replayed Gap bytes answer n.world)) p
+  replies_short (Did (Put GrpClient piece answer)) n same p = p
+  replies_short (Did (Put GrpServer piece answer)) n same p = p
+  replies_short (Did (Put SpinClient piece answer)) n same p = p
+  replies_short (Did (Put SpinServer piece answer)) n same p = p
+  replies_short (Did (Take GrpServer room bytes (Got count))) n same p = short_append n.world.replayed _ p (answered_short n.world.venue n.turn bytes (session_of the_session n.world.venue.proxies) same)
+  replies_short (Did (Take GrpServer room bytes Quiet)) n same p = p
+  replies_short (Did (Take GrpServer room bytes End)) n same p = p
+  replies_short (Did (Take GrpServer room bytes Failed)) n same p = p
+  replies_short (Did (Take SpinServer room bytes answer)) n same p = subst AreShort (sym (served_replayed bytes answer (is_group_open (answer ∷ n.spin_server.answers)) n.world)) p
+  replies_short (Did (Take GrpClient room bytes answer)) n same p = subst AreShort (sym (links_replayed Grp bytes answer n.world)) p
+  replies_short (Did (Take SpinClient room bytes answer)) n same p = subst AreShort (sym (links_replayed Spin bytes answer n.world)) p
+  replies_short (Beat heartbeat answer) n same p =
+      let passed : State = seconds demo_unit default_limits (done_with verbs.Advertise n.world) in
+      subst AreShort (sym (settled_replayed Spin (settled demo_unit default_limits Grp passed) ∙ settled_replayed Grp passed)) p
+  replies_short Turn n same p = subst AreShort (sym (published_replayed (suc n.turn) n.world)) p
+
+  pub replied_short : s.count ≤ 1000 → (run : List Step) → AreShort (scene_of s run).world.replayed
+  replied_short few [] = subst AreShort (sym (published_replayed 1 connected)) tt
+  replied_short few (step ∷ run) = replies_short step (scene_of s run) (stood s few run).sent.accepted (replied_short few run)

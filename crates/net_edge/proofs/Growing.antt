@@ -3,9 +3,8 @@ use Rattle.std.proofs.Common.{◌≡◌, List, [], ◌++◌, refl, sym, ap, ◌�
 use Rattle.std.proofs.lemmas.List.{append-nil}
 use Rattle.pitch_io.specs.declared.line.Line.TheVariants.{A, B, Gap}
 use Rattle.pitch_io.specs.declared.net.LinkEnd.TheVariants.{GrpClient, GrpServer, SpinClient, SpinServer}
-use Rattle.pitch_io.specs.declared.net.NetTaken.TheVariants.{Got, Quiet, End, Failed}
 use Rattle.pitch_io.specs.Nets.{Begin, Send, Next, Put, Take}
-use Rattle.net_edge.specs.Acting.{scene_after, came_by}
+use Rattle.net_edge.specs.Acting.{scene_after, bytes_by, came_by}
 use Rattle.net_edge.specs.Due.{Setting}
 use Rattle.net_edge.specs.Scene.{Scene}
 use Rattle.net_edge.specs.Steps.{Step, Did, Beat, Turn}
@@ -58,18 +57,9 @@ grows s (Did (Put GrpClient piece answer)) n = still n _ refl refl refl refl
 grows s (Did (Put GrpServer piece answer)) n = still n _ refl refl refl refl
 grows s (Did (Put SpinClient piece answer)) n = still n _ refl refl refl refl
 grows s (Did (Put SpinServer piece answer)) n = still n _ refl refl refl refl
-grows s (Did (Take GrpServer room bytes (Got count))) n = still n _ refl refl refl refl
-grows s (Did (Take GrpServer room bytes Quiet)) n = still n _ refl refl refl refl
-grows s (Did (Take GrpServer room bytes End)) n = still n _ refl refl refl refl
-grows s (Did (Take GrpServer room bytes Failed)) n = still n _ refl refl refl refl
+grows s (Did (Take GrpClient room bytes answer)) n = still n _ refl refl refl refl
+grows s (Did (Take GrpServer room bytes answer)) n = still n _ refl refl refl refl
+grows s (Did (Take SpinClient room bytes answer)) n = record { a = begins_same n.a.came; b = begins_same n.b.came; gap = begins_same n.gap.came; spin = (bytes_by answer bytes, refl) }
 grows s (Did (Take SpinServer room bytes answer)) n = still n _ refl refl refl refl
-grows s (Did (Take GrpClient room bytes (Got count))) n = still n _ refl refl refl refl
-grows s (Did (Take GrpClient room bytes Quiet)) n = still n _ refl refl refl refl
-grows s (Did (Take GrpClient room bytes End)) n = still n _ refl refl refl refl
-grows s (Did (Take GrpClient room bytes Failed)) n = still n _ refl refl refl refl
-grows s (Did (Take SpinClient room bytes (Got count))) n = record { a = begins_same n.a.came; b = begins_same n.b.came; gap = begins_same n.gap.came; spin = (bytes, refl) }
-grows s (Did (Take SpinClient room bytes Quiet)) n = record { a = begins_same n.a.came; b = begins_same n.b.came; gap = begins_same n.gap.came; spin = ([], refl) }
-grows s (Did (Take SpinClient room bytes End)) n = record { a = begins_same n.a.came; b = begins_same n.b.came; gap = begins_same n.gap.came; spin = ([], refl) }
-grows s (Did (Take SpinClient room bytes Failed)) n = record { a = begins_same n.a.came; b = begins_same n.b.came; gap = begins_same n.gap.came; spin = ([], refl) }
 grows s (Beat heartbeat answer) n = still n _ refl refl refl refl
 grows s Turn n = still n _ refl refl refl refl

@@ -208,7 +208,7 @@ module _ (s : Setting) (base : List Call) where
 
   -- ---- A whole run
   balanced : (run : List Step) → left [] ≡ nothing_coming → AreSteps s run → FitLines (scene_of s run) → CameInOrder (calls_of run ++ base) → Balance (scene_of s run) (left (calls_of run))
-  balanced [] none steps fits came = subst (Balance first_scene) (sym none) ((λ d there. there, λ d there. there), (λ d there. there, λ d there. there), (λ d there. there, λ d there. there), refl, refl, refl, refl)
+  balanced [] none steps fits came = subst (Balance (first_scene s)) (sym none) ((λ d there. there, λ d there. there), (λ d there. there, λ d there. there), (λ d there. there, λ d there. there), refl, refl, refl, refl)
   balanced (step ∷ before) none steps fits came =
       let n : Scene = scene_of s before in
       let fit : FitLines n = fit_before s step n fits in

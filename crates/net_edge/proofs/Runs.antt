@@ -1,6 +1,6 @@
 -- One step more in a run that is under way.
-use Rattle.std.proofs.Common.{◌≡◌, ℕ, ◌+◌, List, [], ◌∷◌, ◌++◌, take, drop, Option, None, Some, true, refl, ap, sym, ◌∙◌, subst, append_assoc}
-use Rattle.std.proofs.lemmas.List.{append-nil}
+use Rattle.std.proofs.Common.{◌≡◌, ◌≤◌, ℕ, ◌+◌, List, [], ◌∷◌, ◌++◌, take, drop, length, Option, None, Some, true, refl, ap, sym, ◌∙◌, subst, append_assoc, length-append}
+use Rattle.std.proofs.lemmas.List.{append-nil, length-take-le}
 use Rattle.std.proofs.Math.Seq.{take-add}
 use Rattle.pitch_io.specs.declared.line.Line.{Line}
 use Rattle.pitch_io.specs.declared.line.Line.TheVariants.{A, B, Gap}
@@ -9,12 +9,14 @@ use Rattle.pitch_io.specs.declared.net.LinkEnd.TheVariants.{GrpClient, GrpServer
 use Rattle.pitch_io.specs.declared.net.NetDone.{NetDone}
 use Rattle.pitch_io.specs.Nets.{Call, NetDoneFailed, Send}
 use Rattle.pitch_io.specs.layers.Coming.{ListsCall}
-use Rattle.net_edge.specs.Acting.{called, scene_after, sent_on, end_puts, all_tick, next_turn}
+use Rattle.world_model.specs.State.{State}
+use Rattle.net_edge.specs.Acting.{called, scene_after, sent_on, end_puts, in_world, put_at, all_tick, next_turn}
 use Rattle.net_edge.specs.Due.{Setting, IsDuePiece, beat, is_tenth}
 use Rattle.net_edge.specs.layers.Playing.{ListsCalls, Plays}
-use Rattle.net_edge.specs.Scene.{Scene}
+use Rattle.net_edge.specs.Scene.{Scene, waits_at}
 use Rattle.net_edge.specs.Steps.{Step, Did, Beat, Turn, call_at, calls_of}
 use Rattle.net_edge.specs.Turns.{GoesWell, MayCall, MayCome, IsOver, MayGoOn}
+use Rattle.net_edge.proofs.Waits.{put_at_both, put_at_none, waits_left}
 
 told_more : (base : List Call) (calls calls' : Option (List Call)) (step : Step) (call : Call) (run : List Step) → call_at step ≡ call ∷ [] → ListsCalls base calls run → ListsCall calls calls' call → ListsCalls base calls' (step ∷ run)
 told_more base calls None step call run at told lists = tt
@@ -22,19 +24,19 @@ told_more base None (Some after) step call run at told lists = absurd lists
 told_more base (Some before) (Some after) step call run at told lists = lists ∙ ap (λ (x : List Call). call ∷ x) told ∙ ap (λ (x : List Call). (x ++ calls_of run) ++ base) (sym at)
 
 -- a call more
-pub play_call : (s : Setting) (base : List Call) (calls calls' : Option (List Call)) (now : Scene) (call : Call) → ListsCall calls calls' call → GoesWell call → MayCall s call now → Plays s base calls now → Plays s base calls' (called s call now)
+pub play_call : (s : Setting) (base : List Call) (calls calls' : Option (List Call)) (now : Scene) (call : Call) → ListsCall calls calls' call → GoesWell call → MayCall s call now → Plays s base calls now → Plays s base calls' (called call now)
 play_call s base calls calls' now call lists well may plays = (
   Did call ∷ plays.0,
   record {
     told = told_more base calls calls' (Did call) call plays.0 refl plays.1.told lists;
     steps = ((well, subst (MayCall s call) (sym plays.1.now_is) may), plays.1.steps);
-    now_is = ap (called s call) plays.1.now_is;
+    now_is = ap (called call) plays.1.now_is;
   },
 )
 
 -- the turn's heartbeat on line B, with its tick
 pub play_beat : (s : Setting) (base : List Call) (calls calls' : Option (List Call)) (now : Scene) (heartbeat : List ℕ) (answer : NetDone) → ListsCall calls calls' (Send B heartbeat answer) → (NetDoneFailed answer → ⊥) → heartbeat ≡ beat s now.turn → is_tenth now.turn ≡ true → IsDuePiece s now.turn heartbeat
-    → Plays s base calls now → Plays s base calls' (all_tick s (sent_on B (heartbeat ∷ []) now))
+    → Plays s base calls now → Plays s base calls' (in_world all_tick (sent_on B (heartbeat ∷ []) now))
 play_beat s base calls calls' now heartbeat answer lists well is tenth piece plays = (
   Beat heartbeat answer ∷ plays.0,
   record {
@@ -45,13 +47,13 @@ play_beat s base calls calls' now heartbeat answer lists well is tenth piece pla
 )
 
 -- the next turn begins
-pub play_turn : (s : Setting) (base : List Call) (calls : Option (List Call)) (now : Scene) → IsOver s now → MayGoOn s now → Plays s base calls now → Plays s base calls (next_turn now)
+pub play_turn : (s : Setting) (base : List Call) (calls : Option (List Call)) (now : Scene) → IsOver s now → MayGoOn s now → Plays s base calls now → Plays s base calls (next_turn s now)
 play_turn s base calls now over goes plays = (
   Turn ∷ plays.0,
   record {
     told = told_turn base calls plays.0 plays.1.told;
     steps = (subst (MayCome s Turn) (sym plays.1.now_is) (over, goes), plays.1.steps);
-    now_is = ap next_turn plays.1.now_is;
+    now_is = ap (next_turn s) plays.1.now_is;
   },
 )
   where
@@ -76,20 +78,30 @@ sent_both A xs ys now = ap (λ (zs : List (List ℕ)). record now { a = record n
 sent_both B xs ys now = ap (λ (zs : List (List ℕ)). record now { b = record now.b { sent = zs } }) (append_assoc now.b.sent xs ys)
 sent_both Gap xs ys now = ap (λ (zs : List (List ℕ)). record now { gap = record now.gap { sent = zs } }) (append_assoc now.gap.sent xs ys)
 
+-- a scene with these bytes put at an end, and another world
+abbrev with_put : LinkEnd → List ℕ → State → Scene → Scene
+with_put GrpClient bytes w now = record now { grp_client = record now.grp_client { put = bytes }; world = w }
+with_put GrpServer bytes w now = record now { grp_server = record now.grp_server { put = bytes }; world = w }
+with_put SpinClient bytes w now = record now { spin_client = record now.spin_client { put = bytes }; world = w }
+with_put SpinServer bytes w now = record now { spin_server = record now.spin_server { put = bytes }; world = w }
+
 pub put_none : (at : LinkEnd) (now : Scene) → end_puts at [] now ≡ now
-put_none GrpClient now = ap (λ (xs : List ℕ). record now { grp_client = record now.grp_client { put = xs } }) (append-nil now.grp_client.put)
-put_none GrpServer now = ap (λ (xs : List ℕ). record now { grp_server = record now.grp_server { put = xs } }) (append-nil now.grp_server.put)
-put_none SpinClient now = ap (λ (xs : List ℕ). record now { spin_client = record now.spin_client { put = xs } }) (append-nil now.spin_client.put)
-put_none SpinServer now = ap (λ (xs : List ℕ). record now { spin_server = record now.spin_server { put = xs } }) (append-nil now.spin_server.put)
+put_none GrpClient now = λ i. with_put GrpClient (append-nil now.grp_client.put i) (put_at_none GrpClient now.world i) now
+put_none GrpServer now = λ i. with_put GrpServer (append-nil now.grp_server.put i) (put_at_none GrpServer now.world i) now
+put_none SpinClient now = λ i. with_put SpinClient (append-nil now.spin_client.put i) (put_at_none SpinClient now.world i) now
+put_none SpinServer now = λ i. with_put SpinServer (append-nil now.spin_server.put i) (put_at_none SpinServer now.world i) now
 
 pub put_both : (at : LinkEnd) (xs ys : List ℕ) (now : Scene) → end_puts at ys (end_puts at xs now) ≡ end_puts at (xs ++ ys) now
-put_both GrpClient xs ys now = ap (λ (zs : List ℕ). record now { grp_client = record now.grp_client { put = zs } }) (append_assoc now.grp_client.put xs ys)
-put_both GrpServer xs ys now = ap (λ (zs : List ℕ). record now { grp_server = record now.grp_server { put = zs } }) (append_assoc now.grp_server.put xs ys)
-put_both SpinClient xs ys now = ap (λ (zs : List ℕ). record now { spin_client = record now.spin_client { put = zs } }) (append_assoc now.spin_client.put xs ys)
-put_both SpinServer xs ys now = ap (λ (zs : List ℕ). record now { spin_server = record now.spin_server { put = zs } }) (append_assoc now.spin_server.put xs ys)
+put_both at xs ys now = by at
+  where
+    world : (at : LinkEnd) → put_at at (length ys) (put_at at (length xs) now.world) ≡ put_at at (length (xs ++ ys)) now.world
+    world at = put_at_both at (length xs) (length ys) now.world ∙ ap (λ (n : ℕ). put_at at n now.world) (sym (length-append xs ys))
 
--- ---- Some of many
--- what holds of all holds of one among them
+    by : (at : LinkEnd) → end_puts at ys (end_puts at xs now) ≡ end_puts at (xs ++ ys) now
+    by GrpClient = λ i. with_put GrpClient (append_assoc now.grp_client.put xs ys i) (world GrpClient i) now
+    by GrpServer = λ i. with_put GrpServer (append_assoc now.grp_server.put xs ys i) (world GrpServer i) now
+    by SpinClient = λ i. with_put SpinClient (append_assoc now.spin_client.put xs ys i) (world SpinClient i) now
+    by SpinServer = λ i. with_put SpinServer (append_assoc now.spin_server.put xs ys i) (world SpinServer i) now
 
 -- of some bytes the next piece was written
 pub put_next : (at : LinkEnd) (bytes piece : List ℕ) (done count : ℕ) (now : Scene) → piece ≡ drop done bytes → end_puts at (take count piece) (end_puts at (take done bytes) now) ≡ end_puts at (take (done + count) bytes) now
@@ -97,3 +109,16 @@ put_next at bytes piece done count now is =
     ap (λ (p : List ℕ). end_puts at (take count p) (end_puts at (take done bytes) now)) is
     ∙ put_both at (take done bytes) (take count (drop done bytes)) now
     ∙ ap (λ (xs : List ℕ). end_puts at xs now) (sym (take-add done count bytes))
+
+-- the rest of what waited waits
+left_after : (at : LinkEnd) (xs : List ℕ) (now : Scene) → waits_at at (end_puts at xs now).world ≡ drop (length xs) (waits_at at now.world)
+left_after GrpClient xs now = waits_left GrpClient (length xs) now.world
+left_after GrpServer xs now = waits_left GrpServer (length xs) now.world
+left_after SpinClient xs now = waits_left SpinClient (length xs) now.world
+left_after SpinServer xs now = waits_left SpinServer (length xs) now.world
+
+pub put_may : (at : LinkEnd) (bytes piece : List ℕ) (done : ℕ) (now : Scene) → bytes ≡ waits_at at now.world → done ≤ length bytes → piece ≡ drop done bytes → (later : List ℕ) × (waits_at at (end_puts at (take done bytes) now).world ≡ piece ++ later)
+put_may at bytes piece done now waits within is = (
+  [],
+  left_after at (take done bytes) now ∙ ap (λ (n : ℕ). drop n (waits_at at now.world)) (length-take-le done bytes within) ∙ ap (drop done) (sym waits) ∙ sym is ∙ sym (append-nil piece),
+)

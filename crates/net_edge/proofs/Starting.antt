@@ -1,57 +1,191 @@
--- How a run starts, and where it stops.
-use Rattle.std.proofs.Common.{◌≡◌, ℕ, ◌+◌, ◌<◌, ◌≤◌, ◌⊎◌, inl, inr, List, [], Option, None, Some, refl, sym, ap, ◌∙◌, subst, arith}
-use Rattle.venue_core.proofs.PlanBooks.{plan_begins}
-use Rattle.pitch_io.specs.declared.net.LinkEnd.TheVariants.{GrpClient, SpinClient}
+-- How a run and a turn start, and where a run stops.
+use Rattle.std.proofs.Common.{◌≡◌, ◌≤◌, ◌<◌, ◌+◌, ◌-◌, ◌⊎◌, inl, inr, ℕ, suc, Bool, true, false, cond, List, [], length, Option, None, Some, refl, sym, ap, ◌∙◌, subst, arith}
+use Rattle.std.proofs.Math.Seq.{drop-length}
+use Rattle.std.specs.Prelude.{nat_le}
+use Rattle.pitch_io.specs.declared.line.Line.TheVariants.{A, B, Gap}
+use Rattle.pitch_io.specs.declared.net.LinkEnd.{LinkEnd}
+use Rattle.pitch_io.specs.declared.net.LinkEnd.TheVariants.{GrpClient, GrpServer, SpinClient, SpinServer}
 use Rattle.pitch_io.specs.declared.net.NetDone.TheVariants.{Done}
 use Rattle.pitch_io.specs.Nets.{Call, Begin, NetDoneFailed}
 use Rattle.pitch_io.specs.layers.Coming.{ListsCall}
-use Rattle.pitch_model.specs.History.{Raw}
 use Rattle.pitch_model.specs.declared.status.Status.{Status}
 use Rattle.pitch_model.specs.declared.status.Status.TheVariants.{Current}
-use Rattle.venue_core.specs.Plan.{plan}
-use Rattle.net_edge.specs.Acting.{end_puts}
+use Rattle.pitch_text.specs.declared.verb.Verb.TheVariants as verbs
+use Rattle.sending_end.specs.Stands.{NoneWaits, SendingStands}
+use Rattle.venue_core.specs.Plan.{plan_command}
+use Rattle.venue_core.specs.Refusals.{refusal}
+use Rattle.venue_core.specs.declared.error.VenueError.{VenueError}
+use Rattle.venue_end.specs.Came.{VenueState, commanded_on, nothing_came}
+use Rattle.world_model.specs.State.{State, start}
+use Rattle.net_edge.specs.Acting.{next_turn, put_at}
 use Rattle.net_edge.specs.Demo.{IsLast}
-use Rattle.net_edge.specs.Due.{Setting, demo_unit, accepted, messages}
-use Rattle.net_edge.specs.layers.Markets.{SideHas, SideAt}
-use Rattle.net_edge.specs.layers.Playing.{Plays, IsSentTo, IsUncalled, calls_before}
-use Rattle.net_edge.specs.Scene.{Scene, first_scene, said_at}
-use Rattle.net_edge.specs.layers.Playing.{all_put}
+use Rattle.net_edge.specs.Due.{Setting, demo_unit}
+use Rattle.net_edge.specs.Scene.{Scene, connected, done_with, first_scene, published, waits_at}
 use Rattle.net_edge.specs.Turns.{MayGoOn, client_status}
+use Rattle.net_edge.specs.declared.stage.Stage.{Stage}
+use Rattle.net_edge.specs.layers.Ends.{Becomes, Holds, demo_client, no_ends}
+use Rattle.net_edge.specs.layers.Playing.{IsAllSent, IsSentTo, IsUncalled, NothingWaits, Plays, TheEnd, TheLine, TurnBegins, TurnEnds, all_put_at, calls_before}
+use Rattle.net_edge.proofs.Runs.{play_turn}
+use Rattle.net_edge.proofs.Standing.{connected_sent, stood_at}
 
--- ---- The start
 -- what is done has not failed
 pub done_well : NetDoneFailed Done → ⊥
 done_well failed = failed
 
-pub plays_none : (s : Setting) (before after : Option (List Call)) → ListsCall before after (Begin Done) → Plays s (calls_before before) after first_scene
+-- ---- A message that is accepted and sent
+-- says nothing, and no second passes by it
+pub record Publishes (w v : State) : Type 0 where
+  pub waits : (at : LinkEnd) → waits_at at v ≡ waits_at at w
+  pub replayed : v.replayed ≡ w.replayed
+  pub seconds : v.venue.spent.now ≡ w.venue.spent.now
+
+pub publishes : (s : Setting) (turn : ℕ) (w : State) → Publishes w (published s turn w)
+publishes s turn w = by (nat_le turn s.count)
+  where
+    accepted : State
+    accepted = done_with verbs.Flush (done_with (verbs.Command (plan_command s.number demo_unit turn)) w)
+
+    with_venue : VenueState → State
+    with_venue v = record w { venue = v }
+
+    seconds : (o : Option VenueError) → (commanded_on o (plan_command s.number demo_unit turn) w.venue).spent.now ≡ w.venue.spent.now
+    seconds None = refl
+    seconds (Some error) = refl
+
+    waits : (o : Option VenueError) (at : LinkEnd) → waits_at at (with_venue (commanded_on o (plan_command s.number demo_unit turn) w.venue)) ≡ waits_at at w
+    waits None GrpClient = refl
+    waits None GrpServer = refl
+    waits None SpinClient = refl
+    waits None SpinServer = refl
+    waits (Some error) GrpClient = refl
+    waits (Some error) GrpServer = refl
+    waits (Some error) SpinClient = refl
+    waits (Some error) SpinServer = refl
+
+    flushed : (at : LinkEnd) → waits_at at accepted ≡ waits_at at (with_venue (commanded_on (refusal w.venue.messages (plan_command s.number demo_unit turn)) (plan_command s.number demo_unit turn) w.venue))
+    flushed GrpClient = refl
+    flushed GrpServer = refl
+    flushed SpinClient = refl
+    flushed SpinServer = refl
+
+    by : (b : Bool) → Publishes w (cond b (done_with verbs.Flush (done_with (verbs.Command (plan_command s.number demo_unit turn)) w)) w)
+    by true = record {
+      waits = λ at. flushed at ∙ waits (refusal w.venue.messages (plan_command s.number demo_unit turn)) at;
+      replayed = refl;
+      seconds = seconds (refusal w.venue.messages (plan_command s.number demo_unit turn));
+    }
+    by false = record { waits = λ at. refl; replayed = refl; seconds = refl }
+
+-- ---- A stage to which nothing came
+pub stage_first : {V : Type 0} (is : V → VenueState → Type 0) (e : Stage V) → is e.venue nothing_came → SendingStands demo_client e.client [] → NoneWaits e.client → Holds is e start
+stage_first is e venue stands waits = record {
+  venue = venue;
+  client = record { unit_is = stands.unit_is; end_is = stands.end_is; grp_up = waits.proxy; spin_up = waits.spin_server };
+  came = [];
+  came_is = refl;
+}
+
+-- ---- The start of a run
+pub plays_none : (s : Setting) (before after : Option (List Call)) → ListsCall before after (Begin Done) → Plays s (calls_before before) after (first_scene s)
 plays_none s before None lists = ([], record { told = tt; steps = tt; now_is = refl })
 plays_none s None (Some calls) lists = absurd lists
 plays_none s (Some before) (Some calls) lists = ([], record { told = lists; steps = tt; now_is = refl })
 
--- the net was set up, and both links put their logins
-pub begun : (s : Setting) (c0 c1 c2 c3 : Option (List Call)) (login spin_login : List ℕ) → ListsCall c0 c1 (Begin Done)
-    → login ≡ said_at GrpClient first_scene → spin_login ≡ said_at SpinClient first_scene
-    → ((n : Scene) → Plays s (calls_before c0) c1 n → Plays s (calls_before c0) c2 (end_puts GrpClient login n))
-    → ((n : Scene) → Plays s (calls_before c0) c2 n → Plays s (calls_before c0) c3 (end_puts SpinClient spin_login n))
-    → Plays s (calls_before c0) c3 (all_put first_scene)
-begun s c0 c1 c2 c3 login spin_login lists login_is spin_is puts spin_puts =
-    let first : Plays s (calls_before c0) c1 first_scene = plays_none s c0 c1 lists in
-    subst (λ (b : List ℕ). Plays s (calls_before c0) c3 (end_puts SpinClient b (end_puts GrpClient (said_at GrpClient first_scene) first_scene))) spin_is
-    (subst (λ (b : List ℕ). Plays s (calls_before c0) c3 (end_puts SpinClient spin_login (end_puts GrpClient b first_scene))) login_is (spin_puts (end_puts GrpClient login first_scene) (puts first_scene first)))
+-- what is put of both logins
+abbrev pub grp_put : State → State
+grp_put w = put_at GrpClient (length (waits_at GrpClient w)) w
 
--- nothing was accepted before the first turn
+abbrev both_put : State → State
+both_put w = put_at SpinClient (length (waits_at SpinClient (grp_put w))) (grp_put w)
 
-pub market_first : {M : Type 0} (has : M → List Raw → List ℕ → Type 0) (s : Setting) (market : M) → has market [] [] → SideAt has s market 0
-market_first has s market is =
-    let none : accepted s 0 ≡ 0 = omega arith in
-    let empty : [] ≡ messages s 0 = sym (ap (plan s.number demo_unit) none ∙ plan_begins s.number demo_unit) in
-    subst (λ (V : List Raw). SideHas has market V []) empty (record { is = is; raws = tt; few = omega arith })
+abbrev pub logged_in : Setting → Scene
+logged_in s = all_put_at SpinClient (all_put_at GrpClient (first_scene s))
 
-pub sent_first : (s : Setting) → IsSentTo s 0 (all_put first_scene)
-sent_first s = record { on_a = refl; on_b = refl; ticked = refl }
+logged_world : (s : Setting) → (logged_in s).world ≡ published s 1 (both_put connected)
+logged_world s = by (nat_le 1 s.count)
+  where
+    by : (b : Bool) → both_put (cond b (done_with verbs.Flush (done_with (verbs.Command (plan_command s.number demo_unit 1)) connected)) connected)
+        ≡ cond b (done_with verbs.Flush (done_with (verbs.Command (plan_command s.number demo_unit 1)) (both_put connected))) (both_put connected)
+    by true = refl
+    by false = refl
 
-pub uncalled_first : IsUncalled (all_put first_scene)
-uncalled_first = record { a = refl; b = refl; gap = refl; grp_client = refl; grp_server = refl; spin_client = refl; spin_server = refl }
+none_waits : NothingWaits (both_put connected)
+none_waits GrpClient = drop-length (waits_at GrpClient connected)
+none_waits GrpServer = refl
+none_waits SpinClient = drop-length (waits_at SpinClient connected)
+none_waits SpinServer = refl
+
+module _ {V : Type 0} (is : V → VenueState → Type 0) (s : Setting) (few : s.count ≤ 1000) where
+  pub begins : (calls calls' : Option (List Call)) (stage : Stage V) → Plays s (calls_before calls) calls' (logged_in s) → Holds is stage (both_put connected) → stage.ended ≡ no_ends → TurnBegins is s (calls_before calls) calls' stage 1 (logged_in s)
+  begins calls calls' stage plays holds ended =
+      let after = publishes s 1 (both_put connected) in
+      record {
+        few = few;
+        turn_is = refl;
+        world = both_put connected;
+        world_is = logged_world s;
+        holds = holds;
+        ended = ended;
+        plays = plays;
+        put = λ at. ap (waits_at at) (logged_world s) ∙ after.waits at ∙ none_waits at;
+        replayed = sym (ap (λ (w : State). w.replayed) (logged_world s) ∙ after.replayed);
+        all_sent = (let first = connected_sent s few in record { accepted = first.accepted; all_sent = first.all_sent });
+        sent = record { on_a = refl; on_b = refl; ticked = ap (λ (w : State). w.venue.spent.now) (logged_world s) ∙ after.seconds };
+        uncalled = uncalled;
+      }
+    where
+      uncalled : IsUncalled (logged_in s)
+      uncalled (TheLine A) = refl
+      uncalled (TheLine B) = refl
+      uncalled (TheLine Gap) = refl
+      uncalled (TheEnd GrpClient) = refl
+      uncalled (TheEnd GrpServer) = refl
+      uncalled (TheEnd SpinClient) = refl
+      uncalled (TheEnd SpinServer) = refl
+
+  -- the net was set up, and both logins were put
+  pub logs_in : (c0 c1 c2 c3 : Option (List Call)) (one two three : Stage V) → ListsCall c0 c1 (Begin Done) → Becomes is one two grp_put → Becomes is two three (λ w. put_at SpinClient (length (waits_at SpinClient w)) w)
+      → ((base : List Call) (now : Scene) (w : State) → Holds is one w → waits_at GrpClient w ≡ waits_at GrpClient now.world → Plays s base c1 now → Plays s base c2 (all_put_at GrpClient now))
+      → ((base : List Call) (now : Scene) (w : State) → Holds is two w → waits_at SpinClient w ≡ waits_at SpinClient now.world → Plays s base c2 now → Plays s base c3 (all_put_at SpinClient now))
+      → Holds is one connected → one.ended ≡ no_ends → (now : Scene) × TurnBegins is s (calls_before c0) c3 three 1 now
+  logs_in c0 c1 c2 c3 one two three lists grp spin grp_plays spin_plays holds ended =
+      let first : Plays s (calls_before c0) c1 (first_scene s) = plays_none s c0 c1 lists in
+      let second = grp_plays (calls_before c0) (first_scene s) connected holds (sym ((publishes s 1 connected).waits GrpClient)) first in
+      let there = grp.holds connected holds in
+      let third = spin_plays (calls_before c0) (all_put_at GrpClient (first_scene s)) (grp_put connected) there (sym ((publishes s 1 connected).waits SpinClient)) second in
+      (logged_in s, begins c0 c3 three third (spin.holds (grp_put connected) there) (spin.ended ∙ grp.ended ∙ ended))
+
+  -- ---- Another turn
+  pub turn_again : (base : List Call) (calls : Option (List Call)) (stage : Stage V) (turn next : ℕ) → next ≡ turn + 1 → (e : TurnEnds is s base calls stage turn) → MayGoOn s e.now → TurnBegins is s base calls stage next (next_turn s e.now)
+  turn_again base calls stage turn next next_is e goes =
+      let n : Scene = e.now in
+      let turns : suc n.turn ≡ next = (let a = e.turn_is in omega (arith, a, next_is)) in
+      let back : n.turn ≡ next - 1 = (let a = e.turn_is in omega (arith, a, next_is)) in
+      let after = publishes s (suc n.turn) n.world in
+      let stands = stood_at s few base calls n e.at.at.plays in
+      record {
+        few = few;
+        turn_is = turns;
+        world = n.world;
+        world_is = ap (λ (t : ℕ). published s t n.world) turns;
+        holds = e.at.at.holds;
+        ended = e.at.at.ended;
+        plays = play_turn s base calls n e.over goes e.at.at.plays;
+        put = λ at. after.waits at ∙ e.at.put at;
+        replayed = e.at.replayed ∙ sym after.replayed;
+        all_sent = subst (λ (t : ℕ). IsAllSent s t n.world) back stands.sent;
+        sent = subst (λ (t : ℕ). IsSentTo s t (next_turn s n)) back (record { on_a = e.over.on_a; on_b = e.over.on_b; ticked = after.seconds ∙ e.over.ticked });
+        uncalled = uncalled;
+      }
+    where
+      uncalled : IsUncalled (next_turn s e.now)
+      uncalled (TheLine A) = refl
+      uncalled (TheLine B) = refl
+      uncalled (TheLine Gap) = refl
+      uncalled (TheEnd GrpClient) = refl
+      uncalled (TheEnd GrpServer) = refl
+      uncalled (TheEnd SpinClient) = refl
+      uncalled (TheEnd SpinServer) = refl
 
 -- ---- The end
 -- a run goes on after a turn with which it does not end

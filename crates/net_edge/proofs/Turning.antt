@@ -1,59 +1,67 @@
--- A turn from its beginning to its end.
-use Rattle.std.proofs.Common.{◌≡◌, ℕ, zero, suc, ◌+◌, ◌-◌, ◌^◌, ◌<◌, ◌≤◌, Bool, true, false, cond, min, List, [], ◌∷◌, ◌++◌, length, Option, refl, sym, ap, ◌∙◌, subst, arith, append_assoc}
-use Rattle.std.proofs.lemmas.Bool.{false≢true}
+-- The parts of a turn: what stands before each and after it.
+use Rattle.std.proofs.Common.{◌≡◌, ◌≤◌, ◌+◌, ◌-◌, ℕ, zero, suc, Bool, true, false, cond, List, [], ◌∷◌, ◌++◌, length, drop, Option, refl, sym, ap, ◌∙◌, subst, arith, append_assoc}
+use Rattle.std.specs.List.{AllByRecursion}
 use Rattle.std.proofs.lemmas.List.{append-nil}
+use Rattle.std.proofs.Math.Seq.{drop-length}
 use Rattle.pitch_io.specs.declared.line.Line.{Line}
 use Rattle.pitch_io.specs.declared.line.Line.TheVariants.{A, B, Gap}
 use Rattle.pitch_io.specs.declared.net.LinkEnd.{LinkEnd}
 use Rattle.pitch_io.specs.declared.net.LinkEnd.TheVariants.{GrpClient, GrpServer, SpinClient, SpinServer}
-use Rattle.pitch_io.specs.declared.net.NetDone.{NetDone}
-use Rattle.pitch_io.specs.Nets.{Call, Send, NetDoneFailed}
-use Rattle.pitch_io.specs.layers.Coming.{ListsCall}
-use Rattle.pitch_messages.specs.Room.{Roomy}
-use Rattle.unit_packets.specs.Packing.{bytes_in}
-use Rattle.pitch_fields.specs.Limits.{last_sequence}
-use Rattle.unit_packets.specs.BlockBytes.{block_bytes, heartbeat_block}
-use Rattle.pitch_model.specs.Advertising.{with_sequence}
-use Rattle.pitch_model.specs.History.{Raw}
-use Rattle.heard_items.specs.Datagrams.{IsPiece}
-use Rattle.venue_core.specs.Losses.{is_lost}
-use Rattle.net_edge.specs.Acting.{is_group_open, sent_on, all_tick, next_turn}
-use Rattle.net_edge.specs.Due.{Setting, IsDuePiece, AreDuePieces, demo_unit, accepted, advertised_until, beat, beats, copies, due, is_tenth, messages, new_datagrams, ticks}
-use Rattle.net_edge.specs.layers.Markets.{SideHas, SideAt, HasAccepted}
-use Rattle.net_edge.specs.layers.Playing.{EndsHave, DemoAt, Plays, IsSentTo, IsUncalled, after_beat}
-use Rattle.net_edge.specs.layers.Playing.{after_due_beat}
-use Rattle.net_edge.specs.Scene.{Scene, OnLine, line_in, at_end, said_at}
-use Rattle.net_edge.specs.layers.Playing.{all_put}
-use Rattle.net_edge.specs.Turns.{IsOver, MayGoOn, IsEndOver}
-use Rattle.net_edge.specs.declared.ends.Ends.{Ends}
-use Rattle.net_edge.proofs.Runs.{play_beat, play_turn}
-use Rattle.net_edge.proofs.Feeding.{messages_many}
+use Rattle.pitch_io.specs.Nets.{Call}
+use Rattle.venue_end.specs.Came.{VenueState}
+use Rattle.world_model.specs.State.{State}
+use Rattle.net_edge.specs.Acting.{all_tick, is_group_open, put_at, sent_on}
+use Rattle.net_edge.specs.Due.{Setting, beat, beats, copies, due, is_tenth, ticks}
+use Rattle.net_edge.specs.Scene.{Scene, line_in, waits_at}
+use Rattle.net_edge.specs.Turns.{IsEndOver}
+use Rattle.net_edge.specs.declared.stage.Stage.{Stage}
+use Rattle.net_edge.specs.layers.Playing.{Asks, AsksAll, DemoAt, IsPlaceOver, IsSentTo, IsUncalled, NothingWaits, Place, TheEnd, TheLine, TurnEnds, TurnGoes, after_beat, after_due_beat, answers_of}
+use Rattle.net_edge.proofs.Keeping.{Keeps, keeps_then, put_keeps}
+use Rattle.net_edge.proofs.Standing.{tick_is}
+use Rattle.net_edge.proofs.Waits.{others_wait, waits_left}
 
--- ---- What is due
--- every tenth turn advertises the last message
-pub advertised_tenth : (s : Setting) (turn : ℕ) → 1 ≤ turn → is_tenth turn ≡ true → with_sequence (advertised_until s (turn - 1)) (accepted s turn) ≡ advertised_until s turn
-advertised_tenth s zero some tenth = absurd (omega (arith, some))
-advertised_tenth s (suc t) some tenth =
-    let e : suc t - 1 ≡ t = omega arith in
-    ap (λ (k : ℕ). with_sequence (advertised_until s k) (accepted s (suc t))) e ∙ sym (ap (λ (b : Bool). cond b (with_sequence (advertised_until s t) (accepted s (suc t))) (advertised_until s t)) tenth)
-
-pub advertised_other : (s : Setting) (turn : ℕ) → is_tenth turn ≡ false → advertised_until s (turn - 1) ≡ advertised_until s turn
-advertised_other s zero other = absurd (false≢true (sym other))
-advertised_other s (suc t) other =
-    let e : suc t - 1 ≡ t = omega arith in
-    ap (advertised_until s) e ∙ sym (ap (λ (b : Bool). cond b (with_sequence (advertised_until s t) (accepted s (suc t))) (advertised_until s t)) other)
-
+-- ---- What a turn adds
 due_more : (s : Setting) (line : Line) (turn : ℕ) → 1 ≤ turn → due s line turn ≡ due s line (turn - 1) ++ (copies s line turn ++ beats s turn)
 due_more s line zero some = absurd (omega (arith, some))
-due_more s line (suc t) some =
-    let e : suc t - 1 ≡ t = omega arith in
-    ap (λ (k : ℕ). due s line k ++ (copies s line (suc t) ++ beats s (suc t))) (sym e)
+due_more s line (suc t) some = let e : suc t - 1 ≡ t = omega arith in ap (λ (k : ℕ). due s line k ++ (copies s line (suc t) ++ beats s (suc t))) (sym e)
 
 ticks_more : (turn : ℕ) → 1 ≤ turn → ticks turn ≡ cond (is_tenth turn) (ticks (turn - 1) + 1) (ticks (turn - 1))
 ticks_more zero some = absurd (omega (arith, some))
-ticks_more (suc t) some =
-    let e : suc t - 1 ≡ t = omega arith in
-    ap (λ (k : ℕ). cond (is_tenth (suc t)) (ticks k + 1) (ticks k)) (sym e)
+ticks_more (suc t) some = let e : suc t - 1 ≡ t = omega arith in ap (λ (k : ℕ). cond (is_tenth (suc t)) (ticks k + 1) (ticks k)) (sym e)
+
+-- ---- All that waits is put
+module _ (w : State) where
+  abbrev put_one : LinkEnd → State → State
+  put_one at v = put_at at (length (waits_at at v)) v
+
+  abbrev w1 : State
+  w1 = put_one GrpServer w
+
+  abbrev w2 : State
+  w2 = put_one SpinServer w1
+
+  abbrev w3 : State
+  w3 = put_one GrpClient w2
+
+  abbrev pub all_put_in : State
+  all_put_in = put_one SpinClient w3
+
+  none_left : (at : LinkEnd) (v : State) → waits_at at (put_one at v) ≡ []
+  none_left at v = waits_left at (length (waits_at at v)) v ∙ drop-length (waits_at at v)
+
+  still_waits : (at other : LinkEnd) (v : State) → (other ≡ at → ⊥) → waits_at other (put_one at v) ≡ waits_at other v
+  still_waits at other v apart = others_wait at other (length (waits_at at v)) v apart
+
+  pub none_waits : NothingWaits all_put_in
+  none_waits GrpServer = still_waits SpinClient GrpServer w3 (λ e. cc) ∙ still_waits GrpClient GrpServer w2 (λ e. cc) ∙ still_waits SpinServer GrpServer w1 (λ e. cc) ∙ none_left GrpServer w
+  none_waits SpinServer = still_waits SpinClient SpinServer w3 (λ e. cc) ∙ still_waits GrpClient SpinServer w2 (λ e. cc) ∙ none_left SpinServer w1
+  none_waits GrpClient = still_waits SpinClient GrpClient w3 (λ e. cc) ∙ none_left GrpClient w2
+  none_waits SpinClient = none_left SpinClient w3
+
+  put_keeps_all : Keeps w all_put_in
+  put_keeps_all = keeps_then w w1 all_put_in (put_keeps GrpServer (length (waits_at GrpServer w)) w)
+      (keeps_then w1 w2 all_put_in (put_keeps SpinServer (length (waits_at SpinServer w1)) w1)
+      (keeps_then w2 w3 all_put_in (put_keeps GrpClient (length (waits_at GrpClient w2)) w2) (put_keeps SpinClient (length (waits_at SpinClient w3)) w3)))
 
 -- ---- What a turn's first part sent
 -- the copies of a turn's message were sent on both lines
@@ -75,7 +83,8 @@ module _ (s : Setting) (now : Scene) (some : 1 ≤ now.turn) (sent : IsSentTo s 
       by true tenth = record {
         on_a = ap (λ (bs : List (List ℕ)). (now.a.sent ++ copies s A now.turn) ++ bs) (sym (ap (λ (b : Bool). cond b (beat s now.turn ∷ []) []) tenth)) ∙ line_due A now.a.sent sent.on_a;
         on_b = ap (λ (bs : List (List ℕ)). (now.b.sent ++ copies s B now.turn) ++ bs) (sym (ap (λ (b : Bool). cond b (beat s now.turn ∷ []) []) tenth)) ∙ line_due B now.b.sent sent.on_b;
-        ticked = ap (λ (k : ℕ). k + 1) sent.ticked ∙ sym (ticks_more now.turn some ∙ ap (λ (b : Bool). cond b (ticks (now.turn - 1) + 1) (ticks (now.turn - 1))) tenth);
+        ticked = (put_keeps_all (all_tick now.world)).seconds ∙ (tick_is now.world).seconds ∙ ap (λ (k : ℕ). k + 1) sent.ticked
+            ∙ sym (ticks_more now.turn some ∙ ap (λ (b : Bool). cond b (ticks (now.turn - 1) + 1) (ticks (now.turn - 1))) tenth);
       }
       by false other = record {
         on_a = sym (append-nil (now.a.sent ++ copies s A now.turn)) ∙ ap (λ (bs : List (List ℕ)). (now.a.sent ++ copies s A now.turn) ++ bs) (sym (ap (λ (b : Bool). cond b (beat s now.turn ∷ []) []) other)) ∙ line_due A now.a.sent sent.on_a;
@@ -84,12 +93,27 @@ module _ (s : Setting) (now : Scene) (some : 1 ≤ now.turn) (sent : IsSentTo s 
       }
 
 -- no `next` and no `take` was called
-pub uncalled_then : (s : Setting) (turn : ℕ) (now : Scene) → IsUncalled now → IsUncalled (after_due_beat s (copied s turn now))
-uncalled_then s turn now is = by (is_tenth now.turn)
+answers_still : (s : Setting) (turn : ℕ) (now : Scene) (place : Place) → answers_of place (after_due_beat s (copied s turn now)) ≡ answers_of place now
+answers_still s turn now place = by (is_tenth now.turn) place
   where
-    by : (b : Bool) → IsUncalled (cond b (after_beat s (copied s turn now)) (copied s turn now))
-    by true = record { a = is.a; b = is.b; gap = is.gap; grp_client = is.grp_client; grp_server = is.grp_server; spin_client = is.spin_client; spin_server = is.spin_server }
-    by false = record { a = is.a; b = is.b; gap = is.gap; grp_client = is.grp_client; grp_server = is.grp_server; spin_client = is.spin_client; spin_server = is.spin_server }
+    by : (b : Bool) (place : Place) → answers_of place (cond b (after_beat s (copied s turn now)) (copied s turn now)) ≡ answers_of place now
+    by true (TheLine A) = refl
+    by true (TheLine B) = refl
+    by true (TheLine Gap) = refl
+    by true (TheEnd GrpClient) = refl
+    by true (TheEnd GrpServer) = refl
+    by true (TheEnd SpinClient) = refl
+    by true (TheEnd SpinServer) = refl
+    by false (TheLine A) = refl
+    by false (TheLine B) = refl
+    by false (TheLine Gap) = refl
+    by false (TheEnd GrpClient) = refl
+    by false (TheEnd GrpServer) = refl
+    by false (TheEnd SpinClient) = refl
+    by false (TheEnd SpinServer) = refl
+
+pub uncalled_then : (s : Setting) (turn : ℕ) (now : Scene) → IsUncalled now → IsUncalled (after_due_beat s (copied s turn now))
+uncalled_then s turn now none place = answers_still s turn now place ∙ none place
 
 pub turn_then : (s : Setting) (turn : ℕ) (now : Scene) → (after_due_beat s (copied s turn now)).turn ≡ now.turn
 turn_then s turn now = by (is_tenth now.turn)
@@ -98,157 +122,123 @@ turn_then s turn now = by (is_tenth now.turn)
     by true = refl
     by false = refl
 
--- ---- The ends are as they were
--- where datagrams were sent on the lines of the venue
-pub ends_sent : (e : Ends) (now : Scene) (a b : OnLine) → EndsHave e now → EndsHave e (record now { a = a; b = b })
-ends_sent e now a b has = record {
-  proxy = has.proxy;
-  spin = has.spin;
-  client = has.client;
-  gap_link = has.gap_link;
-  spin_link = has.spin_link;
-  grp_server = has.grp_server;
-  spin_server = has.spin_server;
-  replayed = has.replayed;
-}
+-- ---- What was asked in a turn, and what is still to be
+-- what a turn asks, in its order
+abbrev places : List Place
+places = TheEnd GrpServer ∷ TheEnd SpinServer ∷ TheLine A ∷ TheLine B ∷ TheLine Gap ∷ TheEnd GrpClient ∷ TheEnd SpinClient ∷ []
 
--- where the next turn begins
-ends_turned : (e : Ends) (now : Scene) → EndsHave e now → EndsHave e (next_turn now)
-ends_turned e now has = record {
-  proxy = has.proxy;
-  spin = has.spin;
-  client = has.client;
-  gap_link = record { has = has.gap_link.has; cut_is = has.gap_link.cut_is; ended = has.gap_link.ended; put_is = has.gap_link.put_is };
-  spin_link = record { has = has.spin_link.has; cut_is = has.spin_link.cut_is; ended = has.spin_link.ended; put_is = has.spin_link.put_is };
-  grp_server = record { ended_is = has.grp_server.ended_is; put_is = has.grp_server.put_is };
-  spin_server = record { ended_is = has.spin_server.ended_is; put_is = has.spin_server.put_is };
-  replayed = has.replayed;
-}
+-- and the last first
+abbrev backwards : List Place
+backwards = TheEnd SpinClient ∷ TheEnd GrpClient ∷ TheLine Gap ∷ TheLine B ∷ TheLine A ∷ TheEnd SpinServer ∷ TheEnd GrpServer ∷ []
 
-pub turn_next : (s : Setting) (base : List Call) (calls : Option (List Call)) (e : Ends) (now : Scene) → DemoAt s base calls e now → IsOver s now → MayGoOn s now → DemoAt s base calls e (next_turn now)
-turn_next s base calls e now at over goes = record { has = ends_turned e now at.has; plays = play_turn s base calls now over goes at.plays }
+-- none of these is that
+abbrev AreApart : Place → List Place → Type 0
+AreApart place places = AllByRecursion (λ (other : Place). other ≡ place → ⊥) places
 
-pub sent_so : (s : Setting) (now : Scene) → IsOver s now → IsSentTo s now.turn (next_turn now)
-sent_so s now over = record { on_a = over.on_a; on_b = over.on_b; ticked = over.ticked }
+stays_over : (other place : Place) (now after : Scene) → Asks place now after → (other ≡ place → ⊥) → IsPlaceOver other now → IsPlaceOver other after
+stays_over (TheLine line) place now after asks apart over = ap is_group_open (asks.others (TheLine line) apart) ∙ over
+stays_over (TheEnd at) place now after asks apart over = λ opened. asks.done at (over (ap is_group_open (sym (asks.others (TheEnd at) apart)) ∙ opened))
 
-pub uncalled_so : (now : Scene) → IsUncalled (next_turn now)
-uncalled_so now = record { a = refl; b = refl; gap = refl; grp_client = refl; grp_server = refl; spin_client = refl; spin_server = refl }
+all_stay_over : (places : List Place) (place : Place) (now after : Scene) → Asks place now after → AreApart place places → AllByRecursion (λ (p : Place). IsPlaceOver p now) places → AllByRecursion (λ (p : Place). IsPlaceOver p after) places
+all_stay_over [] place now after asks apart over = tt
+all_stay_over (p ∷ places) place now after asks apart over = (stays_over p place now after asks apart.0 over.0, all_stay_over places place now after asks apart.1 over.1)
 
--- ---- A turn is over
--- all that was said was put
-all_was_put : (ends : Ends) (now : Scene) → EndsHave ends now → (at : LinkEnd) → (at_end at now).put ≡ said_at at now
-all_was_put ends now has GrpClient = has.gap_link.put_is
-all_was_put ends now has GrpServer = has.grp_server.put_is
-all_was_put ends now has SpinClient = has.spin_link.put_is
-all_was_put ends now has SpinServer = has.spin_server.put_is
+all_stay_uncalled : (places : List Place) (place : Place) (now after : Scene) → Asks place now after → AreApart place places → AllByRecursion (λ (p : Place). answers_of p now ≡ []) places → AllByRecursion (λ (p : Place). answers_of p after ≡ []) places
+all_stay_uncalled [] place now after asks apart none = tt
+all_stay_uncalled (p ∷ places) place now after asks apart none = (asks.others p apart.0 ∙ none.0, all_stay_uncalled places place now after asks apart.1 none.1)
 
-pub over_is : (s : Setting) (now : Scene) → is_group_open now.a.answers ≡ false → is_group_open now.b.answers ≡ false → is_group_open now.gap.answers ≡ false
-    → IsEndOver GrpClient now → IsEndOver GrpServer now → IsEndOver SpinClient now → IsEndOver SpinServer now → IsSentTo s now.turn now → (e : Ends) → EndsHave e now → IsOver s now
-over_is s now a b gap grp_client grp_server spin_client spin_server sent e has = record {
-  lines = lines;
-  ends = ends;
-  on_a = sent.on_a;
-  on_b = sent.on_b;
-  ticked = sent.ticked;
-  put = all_was_put e now has;
-  replayed = has.replayed;
-}
-  where
-    lines : (line : Line) → is_group_open (line_in line now).answers ≡ false
-    lines A = a
-    lines B = b
-    lines Gap = gap
+module _ {V : Type 0} (is : V → VenueState → Type 0) (s : Setting) (base : List Call) where
+  -- in a turn these places were asked, and those are still to be
+  pub record InTurn (calls : Option (List Call)) (stage : Stage V) (turn : ℕ) (asked left : List Place) : Type 0 where
+    pub now : Scene
+    pub at : DemoAt is s base calls stage now
+    pub turn_is : now.turn ≡ turn
+    pub sent : IsSentTo s turn now
+    pub over : AllByRecursion (λ (p : Place). IsPlaceOver p now) asked
+    pub uncalled : AllByRecursion (λ (p : Place). answers_of p now ≡ []) left
 
-    ends : (at : LinkEnd) → IsEndOver at now
-    ends GrpClient = grp_client
-    ends GrpServer = grp_server
-    ends SpinClient = spin_client
-    ends SpinServer = spin_server
+  -- so many of the places were asked
+  abbrev Asked : ℕ → Option (List Call) → Stage V → ℕ → Type 0
+  Asked k calls stage turn = InTurn calls stage turn (drop (7 - k) backwards) (drop k places)
 
--- ---- What the venue does in a turn
-module _ (s : Setting) (base : List Call) where
-  pub published : {M : Type 0} (has : M → List Raw → List ℕ → Type 0) (turn : ℕ) (c0 c1 c2 c3 : Option (List Call)) (e e' : Ends) (market market' : M) (lost_a lost_b : Bool) (given_a given_b : List (List ℕ)) (now : Scene)
-      → 1 ≤ turn → now.turn ≡ turn → DemoAt s base c0 e now → IsSentTo s (turn - 1) now → IsUncalled now
-      → lost_a ≡ is_lost s.number demo_unit turn 1 → lost_b ≡ is_lost s.number demo_unit turn 2 → given_a ≡ new_datagrams s turn → given_b ≡ new_datagrams s turn → HasAccepted has s market turn
-      → ((n : Scene) → n.turn ≡ turn → Plays s base c0 n → Plays s base c1 (sent_on A (cond lost_a [] given_a) n))
-      → ((n : Scene) → n.turn ≡ turn → Plays s base c1 n → Plays s base c2 (sent_on B (cond lost_b [] given_b) n))
-      → ((n : Scene) → n.turn ≡ turn → DemoAt s base c2 e n → HasAccepted has s market turn → DemoAt s base c3 e' (after_due_beat s n) × SideAt has s market' turn)
-      → (after : Scene) × (after.turn ≡ turn) × DemoAt s base c3 e' after × SideAt has s market' turn × IsSentTo s turn after × IsUncalled after
-  published has turn c0 c1 c2 c3 e e' market market' lost_a lost_b given_a given_b now some turn_is at before none by_a by_b are_a are_b flushed send_a send_b beat_on =
-      let on_a : cond lost_a [] given_a ≡ copies s A turn = ap (λ (b : Bool). cond b [] given_a) by_a ∙ ap (λ (ds : List (List ℕ)). cond (is_lost s.number demo_unit turn 1) [] ds) are_a in
-      let on_b : cond lost_b [] given_b ≡ copies s B turn = ap (λ (b : Bool). cond b [] given_b) by_b ∙ ap (λ (ds : List (List ℕ)). cond (is_lost s.number demo_unit turn 2) [] ds) are_b in
-      let n : Scene = copied s turn now in
-      let there : Plays s base c2 n =
-      subst (λ (ds : List (List ℕ)). Plays s base c2 (sent_on B ds (sent_on A (copies s A turn) now))) on_b
-      (subst (λ (ds : List (List ℕ)). Plays s base c2 (sent_on B (cond lost_b [] given_b) (sent_on A ds now))) on_a (send_b (sent_on A (cond lost_a [] given_a) now) turn_is (send_a now turn_is at.plays))) in
-      let more = beat_on n turn_is (record { has = ends_sent e now n.a n.b at.has; plays = there }) flushed in
-      let all : IsSentTo s now.turn (after_due_beat s (copied s now.turn now)) = sent_to s now (subst (λ (t : ℕ). 1 ≤ t) (sym turn_is) some) (subst (λ (t : ℕ). IsSentTo s (t - 1) now) (sym turn_is) before) in (
-        after_due_beat s n,
-        turn_then s turn now ∙ turn_is,
-        more.0,
-        more.1,
-        subst (λ (t : ℕ). IsSentTo s t (after_due_beat s (copied s t now))) turn_is all,
-        uncalled_then s turn now none,
-      )
+  pub in_turn : (calls : Option (List Call)) (stage : Stage V) (turn : ℕ) → TurnGoes is s base calls stage turn → Asked 0 calls stage turn
+  in_turn calls stage turn goes = record {
+    now = goes.now;
+    at = goes.at;
+    turn_is = goes.turn_is;
+    sent = goes.sent;
+    over = tt;
+    uncalled = (goes.uncalled (TheEnd GrpServer), (goes.uncalled (TheEnd SpinServer), (goes.uncalled (TheLine A), (goes.uncalled (TheLine B), (goes.uncalled (TheLine Gap), (goes.uncalled (TheEnd GrpClient), (goes.uncalled (TheEnd SpinClient), tt)))))));
+  }
 
-  -- ---- Another turn
-  pub turn_again : {M : Type 0} (has : M → List Raw → List ℕ → Type 0) (turn next : ℕ) (calls : Option (List Call)) (e : Ends) (market : M) (now : Scene) → next ≡ turn + 1 → now.turn ≡ turn → DemoAt s base calls e now → SideAt has s market turn → IsOver s now → MayGoOn s now
-      → (n : Scene) × (n.turn ≡ next) × DemoAt s base calls e n × SideAt has s market (next - 1) × IsSentTo s (next - 1) n × IsUncalled n
-  turn_again has turn next calls e market now next_is turn_is at stands over goes =
-      let back : turn ≡ next - 1 = omega (arith, next_is) in
-      let begins : suc now.turn ≡ next = omega (arith, next_is, turn_is) in (
-        next_turn now,
-        begins,
-        turn_next s base calls e now at over goes,
-        subst (SideAt has s market) back stands,
-        subst (λ (t : ℕ). IsSentTo s t (next_turn now)) (turn_is ∙ back) (sent_so s now over),
-        uncalled_so now,
-      )
+  -- one place more
+  asks_next : (place : Place) (asked left : List Place) (turn : ℕ) (c0 c1 : Option (List Call)) (old new : Stage V) → AreApart place asked → AreApart place left → (g : InTurn c0 old turn asked (place ∷ left))
+      → (DemoAt is s base c0 old g.now → answers_of place g.now ≡ [] → AsksAll is s base c1 new place g.now) → InTurn c1 new turn (place ∷ asked) left
+  asks_next place asked left turn c0 c1 old new apart apart_left g does =
+      let then = does g.at g.uncalled.0 in
+      record {
+        now = then.after;
+        at = then.at;
+        turn_is = then.asks.turn_is ∙ g.turn_is;
+        sent = record { on_a = then.asks.on_a ∙ g.sent.on_a; on_b = then.asks.on_b ∙ g.sent.on_b; ticked = then.asks.ticked ∙ g.sent.ticked };
+        over = (then.over, all_stay_over asked place g.now then.after then.asks apart g.over);
+        uncalled = all_stay_uncalled left place g.now then.after then.asks apart_left g.uncalled.1;
+      }
 
-  -- ---- A heartbeat
-  pub beats_then : (c0 c1 c2 c3 : Option (List Call)) (e e' : Ends) (heartbeat : List ℕ) (answer : NetDone) (sequence : ℕ) (now : Scene) → DemoAt s base c0 e now → is_tenth now.turn ≡ true → heartbeat ≡ beat s now.turn → sequence ≡ accepted s now.turn
-      → IsDuePiece s now.turn heartbeat → (Plays s base c0 now → Plays s base c1 (sent_on A (heartbeat ∷ []) now)) → ListsCall c1 c2 (Send B heartbeat answer) → (NetDoneFailed answer → ⊥)
-      → ((n : Scene) → EndsHave e n → sequence ≡ accepted s n.turn → Plays s base c2 (all_tick s n) → DemoAt s base c3 e' (all_put (all_tick s n)))
-      → DemoAt s base c3 e' (after_beat s now)
-  beats_then c0 c1 c2 c3 e e' heartbeat answer sequence now at tenth is number piece sends lists well ticks_on =
-      let first : Scene = sent_on A (heartbeat ∷ []) now in
-      let n : Scene = sent_on B (heartbeat ∷ []) first in
-      let played : Plays s base c2 (all_tick s n) = play_beat s base c1 c2 first heartbeat answer lists well is tenth piece (sends at.plays) in
-      subst (λ (b : List ℕ). DemoAt s base c3 e' (all_put (all_tick s (sent_on B (b ∷ []) (sent_on A (b ∷ []) now))))) is (ticks_on n (ends_sent e now n.a n.b at.has) number played)
+  -- what a call that asks a place ensures
+  abbrev AsksThere : Place → Option (List Call) → Option (List Call) → Stage V → Stage V → Type 0
+  AsksThere place c0 c1 old new = (now : Scene) → DemoAt is s base c0 old now → answers_of place now ≡ [] → AsksAll is s base c1 new place now
 
-  pub beaten_tenth : (calls : Option (List Call)) (e : Ends) (now : Scene) (turn : ℕ) → now.turn ≡ turn → is_tenth turn ≡ true → DemoAt s base calls e (after_beat s now) → DemoAt s base calls e (after_due_beat s now)
-  beaten_tenth calls e now turn turn_is tenth at = subst (λ (b : Bool). DemoAt s base calls e (cond b (after_beat s now) now)) (sym (ap is_tenth turn_is ∙ tenth)) at
+  -- each in its turn
+  module _ (turn : ℕ) (c0 c1 : Option (List Call)) (old new : Stage V) where
+    pub asks_grp_server : AsksThere (TheEnd GrpServer) c0 c1 old new → Asked 0 c0 old turn → Asked 1 c1 new turn
+    asks_grp_server asks g = asks_next (TheEnd GrpServer) (drop 7 backwards) (drop 1 places) turn c0 c1 old new tt (λ e. cc, (λ e. cc, (λ e. cc, (λ e. cc, (λ e. cc, (λ e. cc, tt)))))) g (asks g.now)
 
-  pub beaten_other : (calls : Option (List Call)) (e : Ends) (now : Scene) (turn : ℕ) → now.turn ≡ turn → is_tenth turn ≡ false → DemoAt s base calls e now → DemoAt s base calls e (after_due_beat s now)
-  beaten_other calls e now turn turn_is other at = subst (λ (b : Bool). DemoAt s base calls e (cond b (after_beat s now) now)) (sym (ap is_tenth turn_is ∙ other)) at
+    pub asks_spin_server : AsksThere (TheEnd SpinServer) c0 c1 old new → Asked 1 c0 old turn → Asked 2 c1 new turn
+    asks_spin_server asks g = asks_next (TheEnd SpinServer) (drop 6 backwards) (drop 2 places) turn c0 c1 old new (λ e. cc, tt) (λ e. cc, (λ e. cc, (λ e. cc, (λ e. cc, (λ e. cc, tt))))) g (asks g.now)
 
--- ---- The market
--- what was flushed in a turn are pieces, as a scene of the turn has it
-pub pieces_in_turn : (s : Setting) (turn : ℕ) (flushed : List (Roomy ℕ)) → AreDuePieces s turn (bytes_in flushed) → (list : List (Roomy ℕ)) (now : Scene) → now.turn ≡ turn → list ≡ flushed → AreDuePieces s now.turn (bytes_in list)
-pieces_in_turn s turn flushed pieces list now at_turn is =
-    subst (λ (t : ℕ). AreDuePieces s t (bytes_in list)) (sym at_turn) (subst (λ (ls : List (Roomy ℕ)). AreDuePieces s turn (bytes_in ls)) (sym is) pieces)
+    pub asks_line_a : AsksThere (TheLine A) c0 c1 old new → Asked 2 c0 old turn → Asked 3 c1 new turn
+    asks_line_a asks g = asks_next (TheLine A) (drop 5 backwards) (drop 3 places) turn c0 c1 old new (λ e. cc, (λ e. cc, tt)) (λ e. cc, (λ e. cc, (λ e. cc, (λ e. cc, tt)))) g (asks g.now)
 
--- at a tenth turn it is advertised
-pub advertised_is : {M : Type 0} (has : M → List Raw → List ℕ → Type 0) (s : Setting) (turn : ℕ) (old new : M) → 1 ≤ turn → is_tenth turn ≡ true → HasAccepted has s old turn
-    → (has old (messages s turn) (advertised_until s (turn - 1)) → has new (messages s turn) (with_sequence (advertised_until s (turn - 1)) (length (messages s turn))))
-    → SideAt has s new turn
-advertised_is has s turn old new some tenth at advertises = record {
-  is = subst (has new (messages s turn)) (ap (with_sequence (advertised_until s (turn - 1))) (messages_many s turn) ∙ advertised_tenth s turn some tenth) (advertises at.is);
-  raws = at.raws;
-  few = at.few;
-}
+    pub asks_line_b : AsksThere (TheLine B) c0 c1 old new → Asked 3 c0 old turn → Asked 4 c1 new turn
+    asks_line_b asks g = asks_next (TheLine B) (drop 4 backwards) (drop 4 places) turn c0 c1 old new (λ e. cc, (λ e. cc, (λ e. cc, tt))) (λ e. cc, (λ e. cc, (λ e. cc, tt))) g (asks g.now)
 
-pub advertised_still : {M : Type 0} (has : M → List Raw → List ℕ → Type 0) (s : Setting) (turn : ℕ) (market : M) → is_tenth turn ≡ false → HasAccepted has s market turn → SideAt has s market turn
-advertised_still has s turn market other at = subst (SideHas has market (messages s turn)) (advertised_other s turn other) at
+    pub asks_line_gap : AsksThere (TheLine Gap) c0 c1 old new → Asked 4 c0 old turn → Asked 5 c1 new turn
+    asks_line_gap asks g = asks_next (TheLine Gap) (drop 3 backwards) (drop 5 places) turn c0 c1 old new (λ e. cc, (λ e. cc, (λ e. cc, (λ e. cc, tt)))) (λ e. cc, (λ e. cc, tt)) g (asks g.now)
 
--- the heartbeat of a tenth turn tells the sequence after all that was accepted, and is a piece
-pub heartbeat_is : (s : Setting) (turn sequence next : ℕ) (heartbeat : List ℕ) → length (messages s turn) ≤ last_sequence → sequence ≡ length (messages s turn) → next ≡ min (sequence + 1) (2 ^ 32 - 1) → heartbeat ≡ block_bytes (heartbeat_block demo_unit next) → heartbeat ≡ beat s turn
-heartbeat_is s turn sequence next heartbeat few is next_is said =
-    let tells : next ≡ accepted s turn + 1 = omega (arith, few, is, next_is, messages_many s turn) in
-    said ∙ ap (λ (n : ℕ). block_bytes (heartbeat_block demo_unit n)) tells
+    pub asks_grp_client : AsksThere (TheEnd GrpClient) c0 c1 old new → Asked 5 c0 old turn → Asked 6 c1 new turn
+    asks_grp_client asks g = asks_next (TheEnd GrpClient) (drop 2 backwards) (drop 6 places) turn c0 c1 old new (λ e. cc, (λ e. cc, (λ e. cc, (λ e. cc, (λ e. cc, tt))))) (λ e. cc, tt) g (asks g.now)
 
-pub beat_piece : (s : Setting) (turn : ℕ) (heartbeat : List ℕ) → length (messages s turn) ≤ last_sequence → heartbeat ≡ beat s turn
-    → ((V : List Raw) (unit next : ℕ) → unit < 256 → 0 < next → next ≤ length V + 1 → next ≤ last_sequence + 1 → IsPiece V unit (block_bytes (heartbeat_block unit next)))
-    → IsDuePiece s turn heartbeat
-beat_piece s turn heartbeat few is pieces =
-    subst (IsDuePiece s turn) (sym is) (pieces (messages s turn) demo_unit (accepted s turn + 1) (omega arith) (omega arith) (omega (arith, messages_many s turn)) (omega (arith, few, messages_many s turn)))
+    pub asks_spin_client : AsksThere (TheEnd SpinClient) c0 c1 old new → Asked 6 c0 old turn → Asked 7 c1 new turn
+    asks_spin_client asks g = asks_next (TheEnd SpinClient) (drop 1 backwards) (drop 7 places) turn c0 c1 old new (λ e. cc, (λ e. cc, (λ e. cc, (λ e. cc, (λ e. cc, (λ e. cc, tt)))))) tt g (asks g.now)
+
+  -- all were asked
+  pub turn_ends : (calls : Option (List Call)) (stage : Stage V) (turn : ℕ) → Asked 7 calls stage turn → TurnEnds is s base calls stage turn
+  turn_ends calls stage turn g = record {
+    now = g.now;
+    at = g.at;
+    turn_is = g.turn_is;
+    over = record {
+      lines = lines;
+      ends = ends;
+      on_a = sent.on_a;
+      on_b = sent.on_b;
+      ticked = sent.ticked;
+      put = g.at.put;
+      replayed = g.at.replayed;
+    };
+  }
+    where
+      sent : IsSentTo s g.now.turn g.now
+      sent = subst (λ (t : ℕ). IsSentTo s t g.now) (sym g.turn_is) g.sent
+
+      lines : (line : Line) → is_group_open (line_in line g.now).answers ≡ false
+      lines A = g.over.1.1.1.1.0
+      lines B = g.over.1.1.1.0
+      lines Gap = g.over.1.1.0
+
+      ends : (at : LinkEnd) → IsEndOver at g.now
+      ends GrpClient = g.over.1.0
+      ends GrpServer = g.over.1.1.1.1.1.1.0
+      ends SpinClient = g.over.0
+      ends SpinServer = g.over.1.1.1.1.1.0

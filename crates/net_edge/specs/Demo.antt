@@ -49,7 +49,8 @@ abbrev pub all_messages : Setting → List (List ℕ)
 all_messages s = plan s.number demo_unit s.count
 
 abbrev pub reached_book : Setting → Scene → Book
-reached_book s now = book_after (take (reach hold_limit now.heard) (all_messages s))
+reached_book s now =
+    book_after (take (reach hold_limit now.world.client.heard) (all_messages s))
 
 -- numbers of orders and shares are those of a book
 pub record AreTotalsOf (book : Book) (orders quantity : ℕ) : Type 0 where

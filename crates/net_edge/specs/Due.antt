@@ -1,5 +1,4 @@
--- What a turn brings: a message that is accepted, datagrams that are sent, a sequence that is
--- advertised.
+-- What a turn brings: a message that is accepted, and datagrams that are sent.
 use Rattle.std.specs.Prelude.{ℕ, zero, suc, ◌+◌, ◌-◌, ◌%◌, Bool, ◌==◌, min, List, [], ◌∷◌, ◌++◌}
 use Rattle.std.specs.Prelude.{drop, if◌then◌else◌}
 use Rattle.std.specs.List.{AllByRecursion}
@@ -7,19 +6,11 @@ use Rattle.pitch_io.specs.declared.line.Line.{Line}
 use Rattle.pitch_io.specs.declared.line.Line.TheVariants.{A, B, Gap}
 use Rattle.unit_packets.specs.BlockBytes.{block_bytes, heartbeat_block}
 use Rattle.unit_packets.specs.Packing.{packed}
-use Rattle.pitch_model.specs.Advertising.{with_sequence, last_ten}
 use Rattle.pitch_model.specs.History.{Raw}
 use Rattle.heard_items.specs.Datagrams.{IsPiece}
 use Rattle.venue_core.specs.Losses.{is_lost}
 use Rattle.venue_core.specs.Plan.{plan}
-use Rattle.pitch_text.specs.Defaults.{default_hold, default_kept, default_second, default_minute}
-use Rattle.pitch_text.specs.Defaults.{default_day}
-use Rattle.gap_store.specs.Look.{View}
-use Rattle.grp_session.specs.Budget.{Limits}
-use Rattle.spin_server.specs.Served.{Served}
-use Rattle.venue_end.specs.Servers.{limits_of}
-use Rattle.venue_end.specs.declared.setup.VenueSetup.{VenueSetup}
-use Rattle.world_model.specs.Ends.{the_account}
+use Rattle.world_model.specs.Ends.{default_limits}
 
 -- a demo's number, and how many messages its venue accepts
 pub record Setting : Type 0 where
@@ -29,31 +20,13 @@ pub record Setting : Type 0 where
 abbrev pub setting : ℕ → ℕ → Setting
 setting number count = record { number = number; count = count }
 
--- the unit; how many messages the proxy keeps; how many the client can hold; the room for what one
--- call of `next` or `take` brings, which no datagram passes
+-- the unit, whose limits are those where none are said; how many messages its client can hold; the
+-- room for what one call of `next` or `take` brings, which no datagram passes
 abbrev pub demo_unit : ℕ
 demo_unit = 1
 
-abbrev pub kept_messages : ℕ
-kept_messages = default_kept
-
 abbrev pub hold_limit : ℕ
-hold_limit = default_hold
-
--- how the venue's end is made
-abbrev pub demo_setup : VenueSetup
-demo_setup = record {
-  unit = demo_unit;
-  account = the_account;
-  kept = kept_messages;
-  second = default_second;
-  minute = default_minute;
-  day = default_day;
-}
-
--- how many requests the proxy accepts in a second, in a minute and in a day
-abbrev pub request_limits : Limits
-request_limits = limits_of demo_setup
+hold_limit = default_limits.hold
 
 abbrev pub call_room : ℕ
 call_room = 65535
@@ -109,19 +82,3 @@ due s line (suc turn) = due s line turn ++ (copies s line (suc turn) ++ beats s 
 abbrev pub ticks : ℕ → ℕ
 ticks zero = 0
 ticks (suc turn) = if is_tenth (suc turn) then ticks turn + 1 else ticks turn
-
--- the distinct sequences that were advertised up to a turn, in their order: at every tenth turn
--- that of the last message
-abbrev pub advertised_until : Setting → ℕ → List ℕ
-advertised_until s zero = []
-advertised_until s (suc turn) =
-    if is_tenth (suc turn) then with_sequence (advertised_until s turn) (accepted s (suc turn))
-    else advertised_until s turn
-
--- in a turn the servers answer from all that was accepted and advertised up to it
-abbrev pub gap_view : Setting → ℕ → View
-gap_view s turn = record { messages = messages s turn; kept = kept_messages }
-
-abbrev pub spin_view : Setting → ℕ → Served
-spin_view s turn =
-    record { messages = messages s turn; advertised = last_ten (advertised_until s turn) }

@@ -1,7 +1,6 @@
 pub mod Steps
 pub mod Scene
 pub mod Due
-pub mod Connection
 pub mod Acting
 pub mod Turns
 pub mod Breaking

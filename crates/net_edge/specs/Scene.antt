@@ -1,5 +1,5 @@
--- What stands at a moment of a run.
-use Rattle.std.specs.Prelude.{ℕ, Bool, false, true, ◌||◌, List, []}
+-- What stands at a moment of a run: a world, and the calls of the net that carries its bytes.
+use Rattle.std.specs.Prelude.{ℕ, Bool, false, true, ◌||◌, not, List, [], nat_le, if◌then◌else◌}
 use Rattle.pitch_io.specs.declared.line.Line.{Line}
 use Rattle.pitch_io.specs.declared.line.Line.TheVariants.{A, B, Gap}
 use Rattle.pitch_io.specs.declared.net.LinkEnd.{LinkEnd}
@@ -7,14 +7,15 @@ use Rattle.pitch_io.specs.declared.net.LinkEnd.TheVariants.{GrpClient, GrpServer
 use Rattle.pitch_io.specs.declared.net.LinkEnd.TheVariants.{SpinServer}
 use Rattle.pitch_io.specs.declared.net.NetTaken.{NetTaken}
 use Rattle.pitch_io.specs.declared.net.NetTaken.TheVariants.{Got, End}
-use Rattle.pitch_model.specs.History.{Entry}
-use Rattle.session_ends.specs.declared.role.Role.TheVariants as roles
-use Rattle.grp_session.specs.Budget.{Spent}
-use Rattle.grp_session.specs.Serving.{Source}
-use Rattle.spin_server.specs.Served.{Served}
-use Rattle.client_links.specs.Linking.{login_bytes}
-use Rattle.world_model.specs.Ends.{the_account}
-use Rattle.net_edge.specs.Connection.{Connection, connection}
+use Rattle.pitch_text.specs.declared.verb.Session.{Session}
+use Rattle.pitch_text.specs.declared.verb.Session.TheVariants.{Grp, Spin}
+use Rattle.pitch_text.specs.declared.verb.Verb.{Verb}
+use Rattle.pitch_text.specs.declared.verb.Verb.TheVariants as verbs
+use Rattle.venue_core.specs.Plan.{plan_command}
+use Rattle.world_model.specs.Ends.{default_limits, server_waits, stands}
+use Rattle.world_model.specs.State.{State, start, up_waits}
+use Rattle.world_model.specs.Verbs.{does, opened}
+use Rattle.net_edge.specs.Due.{Setting, demo_unit}
 
 -- a line: the datagrams that were sent on it and those that came, in their order, and the answers
 -- of this turn's calls of `next`, the newest first
@@ -42,28 +43,34 @@ pub record Scene : Type 0 where
   pub grp_server : AtEnd
   pub spin_client : AtEnd
   pub spin_server : AtEnd
-  -- the two connections, and whether they were cut
-  pub grp : Connection Source
-  pub spin : Connection (List Served)
-  pub grp_cut : Bool
-  pub spin_cut : Bool
-  -- how many ticks there were; those at which gap requests were accepted; and the datagrams that
-  -- the proxy has for the gap line, in their order
-  pub ticked : ℕ
-  pub spent : Spent
-  pub replayed : List (List ℕ)
-  -- what the client heard, the newest first
-  pub heard : List Entry
+  -- the venue's end and the client's, and what waits to be put
+  pub world : State
 
--- at the start both logins were said, and nothing was put
+-- ---- The start
+-- the world does what a verb of a schedule does
+abbrev pub done_with : Verb → State → State
+done_with verb w = (does demo_unit default_limits verb w).state
+
+-- in a turn one message of the plan is accepted, until all are, and is sent
+abbrev pub published : Setting → ℕ → State → State
+published s turn w =
+    if nat_le turn s.count
+    then done_with verbs.Flush
+    (done_with (verbs.Command (plan_command s.number demo_unit turn)) w)
+    else w
+
+-- both connections are open, and nothing was put
+abbrev pub connected : State
+connected = opened demo_unit default_limits Spin (opened demo_unit default_limits Grp start)
+
 abbrev pub quiet_line : OnLine
 quiet_line = record { sent = []; came = []; answers = [] }
 
 abbrev pub quiet_end : AtEnd
 quiet_end = record { put = []; came = []; answers = []; ended = false }
 
-abbrev pub first_scene : Scene
-first_scene = record {
+abbrev pub first_scene : Setting → Scene
+first_scene s = record {
   turn = 1;
   a = quiet_line;
   b = quiet_line;
@@ -72,14 +79,7 @@ first_scene = record {
   grp_server = quiet_end;
   spin_client = quiet_end;
   spin_server = quiet_end;
-  grp = connection (login_bytes roles.GapLink 0 the_account);
-  spin = connection (login_bytes roles.SpinLink 1 the_account);
-  grp_cut = false;
-  spin_cut = false;
-  ticked = 0;
-  spent = record { now = 0; accepted = [] };
-  replayed = [];
-  heard = [];
+  world = published s 1 connected;
 }
 
 -- ---- Its parts
@@ -105,19 +105,27 @@ with_end GrpServer end now = record now { grp_server = end }
 with_end SpinClient end now = record now { spin_client = end }
 with_end SpinServer end now = record now { spin_server = end }
 
--- all that an end has said
-abbrev pub said_at : LinkEnd → Scene → List ℕ
-said_at GrpClient now = now.grp.up
-said_at GrpServer now = now.grp.down
-said_at SpinClient now = now.spin.up
-said_at SpinServer now = now.spin.down
+-- the session of an end, and whether it is the client's end of it
+abbrev pub session_at : LinkEnd → Session
+session_at GrpClient = Grp
+session_at GrpServer = Grp
+session_at SpinClient = Spin
+session_at SpinServer = Spin
+
+abbrev pub is_client : LinkEnd → Bool
+is_client GrpClient = true
+is_client GrpServer = false
+is_client SpinClient = true
+is_client SpinServer = false
+
+-- what an end of a world said that was not put yet
+abbrev pub waits_at : LinkEnd → State → List ℕ
+waits_at at w =
+    if is_client at then up_waits (session_at at) w else server_waits (session_at at) w.venue
 
 -- its connection was cut
-abbrev pub is_cut : LinkEnd → Scene → Bool
-is_cut GrpClient now = now.grp_cut
-is_cut GrpServer now = now.grp_cut
-is_cut SpinClient now = now.spin_cut
-is_cut SpinServer now = now.spin_cut
+abbrev pub is_cut : LinkEnd → State → Bool
+is_cut at w = not (stands (session_at at) w.client)
 
 -- ---- Answers
 abbrev pub is_got : NetTaken → Bool
@@ -130,4 +138,4 @@ got_end answer = false
 
 -- it is asked no more: it got End, or its connection was cut
 abbrev pub is_done : LinkEnd → Scene → Bool
-is_done at now = (at_end at now).ended || is_cut at now
+is_done at now = (at_end at now).ended || is_cut at now.world

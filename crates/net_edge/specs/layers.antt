@@ -1,5 +1,5 @@
 -- What only the layers tell one another: no top call needs it.
-pub mod Markets
-pub mod Sessions
+pub mod Ends
 pub mod Playing
 pub mod Sending
+pub mod Shared

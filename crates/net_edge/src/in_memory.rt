@@ -1,6 +1,6 @@
 //! What a net in memory does with what a demo gives it.
 
-ghost use Rattle.std.specs.Prelude.{◌≡◌, ℕ, List, Option, Some};
+ghost use Rattle.std.specs.Prelude.{◌≡◌, ℕ, List, Some};
 ghost use Rattle.pitch_io.specs.Nets.{Call};
 ghost use Rattle.net_edge.specs.Acting.{scene_of};
 ghost use Rattle.net_edge.specs.Demo.{IsDemo, IsCarried};

@@ -7,20 +7,17 @@
 //! is. [`StdNet`] is a net over sockets of this machine.
 #![tactic(auto)]
 
-mod ends;
+mod end_set;
 mod error;
 mod in_memory;
-mod lines;
-mod links;
-mod market;
-mod net_peer;
 mod plain;
-mod proxy;
 mod putting;
 mod running;
-mod server_end;
 mod shared;
-mod spin;
+mod shared_venue;
+mod stage;
+mod turn;
+mod venue;
 
 pub use crate::error::DemoError;
 pub use crate::in_memory::carried_in_memory;

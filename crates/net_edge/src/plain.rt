@@ -1,55 +1,70 @@
-//! The venue's side without a shared unit: a market. What it packs is not sent.
+//! The venue's end without a shared unit.
 
-ghost use Rattle.net_edge.specs.layers.Markets.{PlainHas};
+ghost use Rattle.net_edge.specs.layers.Ends.{IsPlain};
 
-use crate::market::VenueSide;
-use grp_session::{GapBudget, GrpServer, look_laws};
+use crate::venue::Venue;
 use pitch_fields::OutOfMemory;
-use pitch_messages::Raw;
-use spin_server::{SpinServer, image_look_laws};
-use unit_market::Market;
+use pitch_text::{Command, Session};
 use unit_packets::DatagramList;
-use venue_core::plan_command;
+use venue_end::VenueEnd;
+use world_model::venue;
 
-impl VenueSide for Market {
-    ghost has = { PlainHas };
+impl Venue for VenueEnd {
+    ghost is = { IsPlain };
 
-    fn accept(&mut self, number: u64, index: u32) -> Result<Raw, OutOfMemory> {
-        let Ok(_) = self.accept(&plan_command(number, 1, index)) else {
-            return Err(OutOfMemory);
-        };
-        let Some(raw) = self.last_raw() else {
-            unreachable!();
-        };
-        Ok(raw.copy())
+    fn accepted_are_messages(&self) {}
+
+    fn accept(&mut self, command: &Command) -> Result<(), OutOfMemory> {
+        match self.accept(command) {
+            Ok(_) => Ok(()),
+            Err(_) => Err(OutOfMemory),
+        }
     }
 
-    fn advertise(&mut self) -> Result<u32, OutOfMemory> {
-        let sequence = self.advertise()?;
-        Ok(sequence)
-    }
-
-    fn feed_proxy(
-        &mut self,
-        server: &mut GrpServer,
-        budget: &mut GapBudget,
-        piece: &[u8],
-        said: &mut Vec<u8>,
-        lines: &mut DatagramList,
-    ) -> Result<(), OutOfMemory> {
-        look_laws();
-        server.feed(piece, budget, Some(&mut *self), said, lines)?;
+    fn flush(&mut self, lines: &mut DatagramList) -> Result<(), OutOfMemory> {
+        self.flush(lines)?;
         Ok(())
     }
 
-    fn feed_spin(
-        &mut self,
-        server: &mut SpinServer,
-        piece: &[u8],
-        said: &mut Vec<u8>,
-    ) -> Result<(), OutOfMemory> {
-        image_look_laws();
-        server.feed(piece, &mut *self, said)?;
+    fn beat(&self) -> [u8; 8] {
+        self.beat()
+    }
+
+    fn advertise(&mut self) -> Result<(), OutOfMemory> {
+        self.advertise()?;
         Ok(())
+    }
+
+    fn second(&mut self) -> Result<(), OutOfMemory> {
+        self.second()
+    }
+
+    fn connect(&mut self, session: Session) -> Result<(), OutOfMemory> {
+        venue::connect(self, session)
+    }
+
+    fn take(
+        &mut self,
+        session: Session,
+        piece: &[u8],
+        gap_line: &mut DatagramList,
+    ) -> Result<(), OutOfMemory> {
+        venue::take(self, session, piece, gap_line)
+    }
+
+    fn send_whole(&mut self) -> Result<(), OutOfMemory> {
+        venue::send_whole(self)
+    }
+
+    fn waiting(&self, session: Session) -> &[u8] {
+        venue::waiting(self, session)
+    }
+
+    fn put(&mut self, session: Session, count: usize) {
+        venue::put(self, session, count)
+    }
+
+    fn cut(&mut self, session: Session) {
+        venue::cut(self, session)
     }
 }

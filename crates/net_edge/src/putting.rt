@@ -1,13 +1,13 @@
 //! What is sent on lines and put at ends.
 
-ghost use Rattle.std.specs.Prelude.{◌≡◌, ◌≤◌, List, [], ◌∷◌, OnOk, IfErr, if◌then◌else◌};
+ghost use Rattle.std.specs.Prelude.{◌≡◌, List, [], ◌∷◌, OnOk, IfErr, if◌then◌else◌};
 ghost use Rattle.pitch_io.specs.Nets.{Call};
 ghost use Rattle.unit_packets.specs.Packing.{bytes_in};
 ghost use Rattle.net_edge.specs.Acting.{sent_on, end_puts};
 ghost use Rattle.net_edge.specs.Breaking.{Breaks};
 ghost use Rattle.net_edge.specs.Due.{Setting, IsDuePiece, AreDuePieces};
-ghost use Rattle.net_edge.specs.layers.Playing.{NetCounts, Plays, KeepsRun, BreaksRun};
-ghost use Rattle.net_edge.specs.Scene.{Scene};
+ghost use Rattle.net_edge.specs.layers.Playing.{NetCounts, Plays};
+ghost use Rattle.net_edge.specs.Scene.{Scene, waits_at};
 
 use crate::error::DemoError;
 use pitch_io::{Line, LinkEnd, Net, NetDone, Put};
@@ -72,13 +72,14 @@ pub(crate) fn send_unless<N: Net>(
     Ok(())
 }
 
-/// Puts all of some bytes at an end.
+/// Puts all of the bytes that wait at an end.
 pub(crate) fn put_whole<N: Net>(net: &mut N, at: LinkEnd, bytes: &[u8]) -> Result<(), DemoError>
     ensures put { OnOk result ((s : Setting) (base : List Call) (now : Scene)
-        → Plays s base (N.calls net.old) now
+        → bytes.now ≡ waits_at at now.world → Plays s base (N.calls net.old) now
         → Plays s base (N.calls net.new) (end_puts at bytes.now now)) }
-    ensures runs { OnOk result (KeepsRun (N.calls net.old) (N.calls net.new)) }
-    ensures broke { IfErr result (BreaksRun (N.calls net.old) (N.calls net.new)) }
+    ensures broke { IfErr result (λ error. (s : Setting) (base : List Call) (now : Scene)
+        → bytes.now ≡ waits_at at now.world → Plays s base (N.calls net.old) now
+        → Breaks s base (N.calls net.new) error) }
     ensures faults { NetCounts result (N.faults net.old) (N.faults net.new) }
 {
     let mut done = 0;

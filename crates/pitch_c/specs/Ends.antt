@@ -17,8 +17,8 @@ use Rattle.pitch_model.specs.Status.{status_of}
 use Rattle.unit_packets.specs.Cutting.{blocks_of, rest_of}
 use Rattle.client_end.specs.Came.{Second, end_after, end_history}
 use Rattle.sending_end.specs.Stands.{SendingStands, OfSending, StaysSo, Passes, LosesAll}
-use Rattle.sending_end.specs.Stands.{HearsBlocks, HearsBegun, NoneWaits, of_unit, waiting}
-use Rattle.sending_end.specs.Waiting.{made, took, ended, lost, link_of}
+use Rattle.sending_end.specs.Stands.{HearsBlocks, HearsBegun, NoneWaits, waiting}
+use Rattle.sending_end.specs.Waiting.{of_unit, made, took, ended, lost, link_of}
 use Rattle.sending_end.specs.declared.end.SendingEnd.{SendingEnd}
 use Rattle.sending_end.specs.declared.session.Session.{Session}
 use Rattle.sending_end.specs.declared.session.Session.TheVariants.{Proxy, SpinServer}

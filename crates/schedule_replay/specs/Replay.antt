@@ -1,13 +1,12 @@
 -- What a schedule writes. Entries that came before stand newest first, as the verbs of a world do.
 use Rattle.std.specs.Prelude.{ℕ, List, [], ◌∷◌, ◌==◌, map, None, Result, Ok, Err, if◌then◌else◌}
 use Rattle.feed_lines.specs.Texts.{texts_after}
-use Rattle.pitch_text.specs.Defaults.{default_hold, default_kept, default_second, default_minute}
-use Rattle.pitch_text.specs.Defaults.{default_day}
 use Rattle.pitch_text.specs.ScheduleGrammar.{entry, schedule_entry, setup_of}
 use Rattle.pitch_text.specs.declared.verb.ScheduleEntry.{ScheduleEntry}
 use Rattle.pitch_text.specs.declared.verb.Verb.{Verb}
 use Rattle.pitch_text.specs.declared.verb.Verb.TheVariants as verbs
 use Rattle.text_lines.specs.Text.{TextFault, entries_of}
+use Rattle.world_model.specs.Ends.{default_limits}
 use Rattle.world_model.specs.Printed.{verb_text}
 use Rattle.world_model.specs.Verbs.{state_of}
 use Rattle.world_model.specs.declared.limits.Limits.{Limits}
@@ -22,17 +21,7 @@ verbs_of unit [] = []
 verbs_of unit (entry ∷ before) =
     if entry.unit == unit then entry.verb ∷ verbs_of unit before else verbs_of unit before
 
--- the limits of a unit that does not begin with an `open` line
-abbrev pub default_limits : Limits
-default_limits = record {
-  hold = default_hold;
-  kept = default_kept;
-  second = default_second;
-  minute = default_minute;
-  day = default_day;
-}
-
--- the limits of a unit that begins with this verb
+-- the limits of a unit that begins with this verb: `open` says them
 abbrev pub limits_at : Verb → Limits
 limits_at (verbs.Setup hold kept second minute day) =
     record { hold = hold; kept = kept; second = second; minute = minute; day = day }

@@ -3,7 +3,8 @@
 
 ghost use Rattle.std.specs.Prelude.{◌≡◌};
 ghost use Rattle.schedule_replay.specs.layers.Merging.{LinesStandApart, UnitsRunApart};
-ghost use Rattle.schedule_replay.specs.Replay.{open_alone, limits_at, default_limits};
+ghost use Rattle.schedule_replay.specs.Replay.{open_alone, limits_at};
+ghost use Rattle.world_model.specs.Ends.{default_limits};
 
 /// A line writes what it writes after the lines of its own unit alone. So a schedule writes what
 /// its units write, each alone, put together in the schedule's order, whoever ran them.

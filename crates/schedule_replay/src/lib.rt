@@ -17,5 +17,5 @@ mod unrun;
 
 pub use crate::error::ReplayError;
 pub use crate::replaying::replay;
-pub use crate::running::{WorldList, default_limits};
+pub use crate::running::WorldList;
 pub use crate::units::replay_work;

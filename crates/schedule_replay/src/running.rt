@@ -12,7 +12,7 @@ ghost use Rattle.world_model.specs.layers.Steps.{AreLimits};
 ghost use Rattle.world_model.specs.Verbs.{state_of};
 ghost use Rattle.world_model.specs.declared.limits.Limits.{Limits as LimitsSaid};
 ghost use Rattle.schedule_replay.specs.Causes.{replay_error};
-ghost use Rattle.schedule_replay.specs.Replay.{verbs_of, default_limits, limits_at, limits_of};
+ghost use Rattle.schedule_replay.specs.Replay.{verbs_of, limits_at, limits_of};
 ghost use Rattle.schedule_replay.specs.Replay.{replay_line, replay_of, schedule_of};
 ghost use Rattle.schedule_replay.specs.layers.Places.{AddsWorlds, ArePlaces, IsPlace, IsReady};
 ghost use Rattle.schedule_replay.specs.layers.Places.{RunsText};
@@ -24,12 +24,9 @@ use crate::units::replay_work;
 use pitch_fields::OutOfMemory;
 use pitch_io::Gate;
 use pitch_text::laws::schedules_are_well_formed;
-use pitch_text::{
-    DEFAULT_DAY, DEFAULT_HOLD, DEFAULT_KEPT, DEFAULT_MINUTE, DEFAULT_SECOND, Schedule,
-    ScheduleEntry, TextError, Verb,
-};
+use pitch_text::{Schedule, ScheduleEntry, TextError, Verb};
 use std::alloc::Global;
-use world_model::{Limits, World, append_printed};
+use world_model::{Limits, World, append_printed, default_limits};
 
 /// A list of worlds.
 pub type WorldList = pitch_messages::List<World>;
@@ -39,20 +36,6 @@ pub(crate) const PLACES: usize = 65;
 
 // The greatest unit of a schedule.
 pub(crate) const LAST_UNIT: u8 = 64;
-
-/// The limits of a unit that does not begin with an `open` line.
-pub fn default_limits() -> Limits
-    ensures limits { result ≡ default_limits }
-    ensures can { AreLimits result }
-{
-    Limits {
-        hold: DEFAULT_HOLD,
-        kept: DEFAULT_KEPT,
-        second: DEFAULT_SECOND,
-        minute: DEFAULT_MINUTE,
-        day: DEFAULT_DAY,
-    }
-}
 
 // The limits of a unit that begins with this verb.
 fn limits_at(verb: &Verb) -> Limits

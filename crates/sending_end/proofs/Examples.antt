@@ -12,8 +12,9 @@ use Rattle.pitch_model.specs.Reach.{reach_of, held_count}
 use Rattle.session_ends.specs.Items.{stream_items}
 use Rattle.client_end.specs.Came.{Came, EndSetup, Heard, GrpMade, GrpTook, GrpCut, GrpLost, SpinMade, SpinTook, SpinCut, SpinLost, Second, end_after}
 use Rattle.sending_end.specs.declared.session.Session.TheVariants.{Proxy, SpinServer}
-use Rattle.sending_end.specs.Waiting.{made, took, ended, lost, link_of, waits_for_proxy, waits_for_spin_server}
-use Rattle.sending_end.specs.Stands.{of_unit, blocks_came}
+use Rattle.sending_end.specs.Waiting.{made, took, ended, lost, link_of, waits_for_proxy}
+use Rattle.sending_end.specs.Waiting.{waits_for_spin_server, of_unit}
+use Rattle.sending_end.specs.Stands.{blocks_came}
 
 -- an end of unit 7, whose hold has two places
 abbrev seven : EndSetup

@@ -10,7 +10,8 @@ use Rattle.unit_packets.specs.declared.header.Header.{Header}
 use Rattle.unit_packets.specs.declared.header.BlockError.{BlockError}
 use Rattle.unit_packets.proofs.Walking.{Walked, walked_more, walked_all}
 use Rattle.client_end.specs.Came.{Came, Heard}
-use Rattle.sending_end.specs.Stands.{SendingStands, HearsBlocks, HearsBegun, StaysSo, of_unit, blocks_came}
+use Rattle.sending_end.specs.Stands.{SendingStands, HearsBlocks, HearsBegun, StaysSo, blocks_came}
+use Rattle.sending_end.specs.Waiting.{of_unit}
 use Rattle.sending_end.specs.declared.end.SendingEnd.{SendingEnd}
 
 abbrev all_came : List Block → List Came

@@ -1,10 +1,10 @@
 -- When an end stands for all that came to it, and what waits there then.
-use Rattle.std.specs.Prelude.{◌≡◌, ◌⊎◌, ◌==◌, ℕ, List, [], ◌∷◌, ◌++◌, map, filter, reverse}
+use Rattle.std.specs.Prelude.{◌≡◌, ◌⊎◌, ℕ, List, [], ◌∷◌, ◌++◌, map, reverse}
 use Rattle.unit_packets.specs.Blocks.{Block}
 use Rattle.unit_packets.specs.Cutting.{blocks_of}
 use Rattle.client_end.specs.Came.{Came, EndSetup, Heard, GrpCut, SpinCut, Second, end_after}
 use Rattle.client_end.specs.Stands.{EndStands}
-use Rattle.sending_end.specs.Waiting.{waits_for_proxy, waits_for_spin_server}
+use Rattle.sending_end.specs.Waiting.{of_unit, waits_for_proxy, waits_for_spin_server}
 use Rattle.sending_end.specs.declared.end.SendingEnd.{SendingEnd}
 use Rattle.sending_end.specs.declared.session.Session.{Session}
 use Rattle.sending_end.specs.declared.session.Session.TheVariants.{Proxy, SpinServer}
@@ -59,10 +59,6 @@ pub record LosesAll (e e' : SendingEnd) : Type 0 where
   pub waits : NoneWaits e'
 
 -- ---- Datagrams
--- the blocks of a unit
-abbrev pub of_unit : ℕ → List Block → List Block
-of_unit unit blocks = filter (λ block. block.unit == unit) blocks
-
 -- they came, one after another
 abbrev pub blocks_came : List Block → List Came → List Came
 blocks_came blocks before = reverse (map (λ block. Heard block) blocks) ++ before

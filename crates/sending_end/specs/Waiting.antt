@@ -1,5 +1,6 @@
 -- What comes to an end on each of its sessions, and the bytes that wait there to be sent.
-use Rattle.std.specs.Prelude.{ℕ, List, [], ◌++◌, Option, is_some, if◌then◌else◌}
+use Rattle.std.specs.Prelude.{ℕ, ◌==◌, List, [], ◌++◌, filter, Option, is_some, if◌then◌else◌}
+use Rattle.unit_packets.specs.Blocks.{Block}
 use Rattle.session_ends.specs.Events.{Event}
 use Rattle.client_links.specs.Linking.{Lookups}
 use Rattle.client_end.specs.Came.{Came, EndSetup, EndState, GrpMade, GrpTook, GrpCut, GrpLost}
@@ -7,6 +8,10 @@ use Rattle.client_end.specs.Came.{SpinMade, SpinTook, SpinCut, SpinLost}
 use Rattle.client_end.specs.Came.{end_step, to_proxy, to_spin_server}
 use Rattle.sending_end.specs.declared.session.Session.{Session}
 use Rattle.sending_end.specs.declared.session.Session.TheVariants.{Proxy, SpinServer}
+
+-- ---- What comes of a datagram: its blocks of the end's unit
+abbrev pub of_unit : ℕ → List Block → List Block
+of_unit unit blocks = filter (λ block. block.unit == unit) blocks
 
 -- ---- What comes on a session: a connection was made, bytes of it came, it ended, or it was lost
 -- for want of memory to hear all that bytes told

@@ -44,12 +44,13 @@ impl SendingEnd {
     ghost use Rattle.client_end.specs.Came.{EndSetup, Heard, GrpMade, GrpTook, GrpCut, GrpLost};
     ghost use Rattle.client_end.specs.Came.{SpinMade, SpinTook, SpinCut, SpinLost, Second};
     ghost use Rattle.client_end.specs.Came.{end_after, end_history, second_ask};
-    ghost use Rattle.client_end.specs.Stands.{ClientHeard, OfEnd};
+    ghost use Rattle.client_end.specs.Parts.{ClientHeard};
+    ghost use Rattle.client_end.specs.Stands.{OfEnd};
     ghost use Rattle.sending_end.specs.Stands.{SendingStands, OfSending, StaysSo, Passes};
     ghost use Rattle.sending_end.specs.Stands.{LosesAll, HearsBlocks, HearsBegun, NoneWaits};
     ghost use Rattle.sending_end.specs.Waiting.{made, took, ended, lost};
-    ghost use Rattle.sending_end.specs.Stands.{WaitsStill, of_unit};
-    ghost use Rattle.sending_end.specs.Waiting.{link_of, kept_for};
+    ghost use Rattle.sending_end.specs.Stands.{WaitsStill};
+    ghost use Rattle.sending_end.specs.Waiting.{link_of, kept_for, of_unit};
     ghost use Rattle.sending_end.specs.Stands.{waiting};
 
     /// An end to which nothing came yet, as `ClientEnd` makes it. Nothing waits.

@@ -135,7 +135,7 @@ module _ (s : VenueSetup) (before : List VenueCame) (are : AreSequenced s.unit (
 
 -- ---- An end that stands for what came
 sequenced : (s : VenueSetup) (venue : VenueEnd) (before : List VenueCame) → s.unit < 256 → VenueStands s venue before → AreSequenced s.unit (venue_after s before).messages
-sequenced s venue before small stands = let has = stands.core.market.venue in record { small = small; raws = has.raws; top = has.few }
+sequenced s venue before small stands = let has = stands.market.venue in record { small = small; raws = has.raws; top = has.few }
 
 pub handed_out_are_pieces : HandedOutArePieces
 handed_out_are_pieces s venue before small stands = all_pieces s before (sequenced s venue before small stands)
@@ -145,7 +145,7 @@ beside_comes_from s venue before came small stands all = all_come s before (sequ
 
 beside_whole : (s : VenueSetup) (venue : VenueEnd) (before : List VenueCame) (c : EndSetup) (came : List Came) → s.unit < 256 → VenueStands s venue before → c.unit ≡ s.unit → ComesBeside s before came → HasWholeImages (venue_after s before).messages (end_history c came)
 beside_whole s venue before c came small stands same all =
-    let has = stands.core.market.venue in
+    let has = stands.market.venue in
     let V : List Raw = (venue_after s before).messages in
     served_is_whole V c came (record { bytes = has.bytes; top = has.few }) (subst (λ (u : ℕ). ComesFrom V u came) (sym same) (beside_comes_from s venue before came small stands all))
 

@@ -11,7 +11,8 @@ use Rattle.pitch_model.specs.Asking.{ask_of}
 use Rattle.pitch_model.specs.History.{Entry, Raw, Message, Next, GrpUp, GrpDown, GapReply, SpinDown, Ticked as TickedEntry}
 use Rattle.pitch_model.specs.Honest.{AreVenues, message_at}
 use Rattle.heard_items.specs.Datagrams.{IsVenueBlock}
-use Rattle.heard_items.specs.Heard.{heard, heard_block, heard_messages, heard_sequenced, is_accepted}
+use Rattle.heard_items.specs.Heard.{heard, heard_block, heard_messages, heard_sequenced}
+use Rattle.heard_items.specs.Heard.{is_accepted, heard_all}
 use Rattle.heard_items.specs.declared.item.Item.{Item}
 use Rattle.heard_items.specs.declared.item.Item.TheVariants as item
 use Rattle.session_ends.specs.declared.role.Role.{Role}
@@ -19,7 +20,7 @@ use Rattle.session_ends.specs.Closing.{closed_of}
 use Rattle.session_ends.specs.Events.{Event, Fed, Ticked, fed_of}
 use Rattle.session_ends.specs.Sending.{header_unit}
 use Rattle.client_links.specs.Linking.{Lookups, NoLookup, link_tells}
-use Rattle.spin_path.specs.Paths.{all_said, heard_all}
+use Rattle.spin_path.specs.Paths.{all_said}
 use Rattle.spin_path.specs.PathLaws.{IsFeed, HasWholeImages}
 use Rattle.spin_path.proofs.Flow.{ImageLeft, Goes, next, rests, rests_append, goes_first, goes_last, Sound, sound_none, sound_item, sound_cut, sound_entry}
 use Rattle.spin_path.proofs.Links.{told_once, told_more, told_over, begins}

@@ -6,7 +6,7 @@ use Rattle.std.proofs.Math.Bool.{or-false}
 use Rattle.session_ends.specs.declared.closed.Closed.{Closed}
 use Rattle.session_ends.specs.declared.inbox.Heard.{Heard}
 use Rattle.session_ends.specs.Answering.{Answer, Answerer, no_answer, followed, answers}
-use Rattle.session_ends.specs.Hearings.{Rises, Hears, HearsAll}
+use Rattle.session_ends.specs.layers.Hearings.{Rises, Hears, HearsAll}
 use Rattle.session_ends.specs.Closing.{Setup, cause_of, first_cause, or_else, logs_in}
 use Rattle.session_ends.specs.layers.Laws.{RisesNowhere}
 use Rattle.session_ends.proofs.Ends.{bool_assoc}

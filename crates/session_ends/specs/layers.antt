@@ -4,3 +4,4 @@ pub mod Happening
 pub mod Hearing
 pub mod Showing
 pub mod Laws
+pub mod Hearings

@@ -12,7 +12,7 @@ use Rattle.gap_store.specs.declared.found.Found.{Found}
 use Rattle.pitch_model.specs.Advertising.{Operation, Accept, Advertise, accepted_at, accepted_by, advertised_by, with_sequence, last_ten, newest_of}
 use Rattle.pitch_model.proofs.Advertising.{advertised_accept, advertised_advertise}
 use Rattle.spin_server.specs.Served.{Served}
-use Rattle.spin_server.specs.Looking.{ServedLater, SeesNewest, SeesServed, LooksUpImage}
+use Rattle.spin_server.specs.layers.Looking.{ServedLater, SeesNewest, SeesServed, LooksUpImage}
 use Rattle.spin_server.specs.declared.lookup.Imaged.{Imaged}
 use Rattle.shared_unit.specs.layers.Answers.{AnswersImage}
 use Rattle.shared_unit.specs.layers.Histories.{kept_at, served_at, then_done}

@@ -5,7 +5,7 @@ ghost use Rattle.unit_packets.specs.Packing.{bytes_in};
 ghost use Rattle.gap_store.specs.Look.{View};
 ghost use Rattle.gap_store.specs.layers.Looking.{FindsAt, LooksAt, PacksAt};
 ghost use Rattle.spin_server.specs.Served.{Served};
-ghost use Rattle.spin_server.specs.Looking.{LooksUpImage, SeesNewest, SeesServed};
+ghost use Rattle.spin_server.specs.layers.Looking.{LooksUpImage, SeesNewest, SeesServed};
 ghost use Rattle.shared_unit.specs.layers.Histories.{kept_at, served_at};
 ghost use Rattle.shared_unit.specs.layers.Moments.{AnswersNewest};
 

@@ -8,9 +8,11 @@ use Rattle.session_ends.specs.Events.{Fed, fed_of}
 use Rattle.client_links.specs.Linking.{NoLookup, LinkStands, link_setup, link_tells}
 use Rattle.session_ends.specs.Ending.{Ending}
 use Rattle.client_links.specs.Telling.{without_spare}
-use Rattle.spin_path.specs.Paths.{Path, Move, Links, path_of, all_said, heard_all, AreMoves}
+use Rattle.spin_path.specs.Paths.{Path, Move, Links, path_of, all_said, AreMoves}
+use Rattle.heard_items.specs.Heard.{heard_all}
 use Rattle.spin_path.specs.PathLaws.{takes_all, IsFeed, HasWholeImages, CarriesOn}
-use Rattle.spin_path.proofs.Moves.{all_are_taken, spare_is_unheard}
+use Rattle.client_links.proofs.Spare.{spare_is_unheard}
+use Rattle.spin_path.proofs.Moves.{all_are_taken}
 use Rattle.spin_path.proofs.Whole.{images_are_whole}
 
 pub carried : (V : List Raw) (setup s : Setup) (moves : List Move) (piece later : List ℕ) (before after : List Item) (new : Ending) → IsFeed V → AreMoves V setup moves → s ≡ link_setup SpinLink (path_of setup moves).setup.unit → (path_of setup moves).told ≡ []

@@ -7,14 +7,14 @@ use Rattle.heard_items.specs.declared.item.Item.TheVariants as item
 use Rattle.heard_items.specs.declared.change.ImageEnd.TheVariants as end
 use Rattle.pitch_model.specs.Reach.{reach}
 use Rattle.pitch_model.specs.History.{Entry, Raw, Message, Next, GrpUp, GrpDown, GapReply, SpinUp, SpinDown, Advertised, SpinReply, ImageMessages, SpinFinished, Ticked as TickedEntry, image_finished, bad_image, spin_of}
-use Rattle.heard_items.specs.Heard.{heard}
+use Rattle.heard_items.specs.Heard.{heard, heard_all}
 use Rattle.heard_items.specs.Changes.{image_end_at}
 use Rattle.session_ends.specs.Closing.{Setup}
 use Rattle.session_ends.specs.Events.{Event, Fed, Ticked, Asked, Pumped, Told}
-use Rattle.client_links.specs.Telling.{without_spare}
 use Rattle.spin_server.specs.Served.{Served}
-use Rattle.spin_path.specs.Paths.{Path, Move, Serves, Links, Takes, Cuts, Hears, path_of, IsShown, MayServe, MayHear, taken, MayMove, AreMoves, heard_all}
-use Rattle.spin_path.specs.PathLaws.{MovesStay, AllAreTaken, SpareIsUnheard, NeverAnswered}
+use Rattle.spin_path.specs.Paths.{Path, Move, Serves, Links, Takes, Cuts, Hears, path_of, IsShown}
+use Rattle.spin_path.specs.Paths.{MayServe, MayHear, taken, MayMove, AreMoves}
+use Rattle.spin_path.specs.PathLaws.{MovesStay, AllAreTaken, NeverAnswered}
 
 -- ---- More messages
 shown_more : (V more : List Raw) (view : Served) → IsShown V view → IsShown (V ++ more) view
@@ -78,25 +78,6 @@ are_taken V setup (suc n) moves are = (tt, are_taken V setup n moves are)
 
 pub all_are_taken : AllAreTaken
 all_are_taken V setup moves are = (are_taken V setup (length (path_of setup moves).told) moves are, taken_by setup (path_of setup moves).told moves refl)
-
--- ---- Plain items
-plain_one : (i : Item) (E : List Entry) → heard (without_spare i) E ≡ heard i E
-plain_one (item.Messages first raws) E = refl
-plain_one (item.Next next) E = refl
-plain_one item.Nothing E = refl
-plain_one item.GrpUp E = refl
-plain_one item.GrpDown E = refl
-plain_one (item.GapReply sequence count status) E = refl
-plain_one item.SpinUp E = refl
-plain_one item.SpinDown E = refl
-plain_one (item.Advertised sequence) E = refl
-plain_one (item.SpinReply sequence orders status) E = refl
-plain_one (item.ImageMessages raws) E = refl
-plain_one (item.SpinFinished sequence) E = refl
-
-pub spare_is_unheard : SpareIsUnheard
-spare_is_unheard [] E = refl
-spare_is_unheard (i ∷ items) E = ap (heard_all (map without_spare items)) (plain_one i E) ∙ spare_is_unheard items (heard i E)
 
 -- ---- What a change says
 end_is : (n : ℕ) (images bad : List (ℕ × List Raw)) (promised got : ℕ) → bad ≡ [] → image_end_at n images bad ≡ end.Bad promised got → ⊥

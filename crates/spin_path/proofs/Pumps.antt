@@ -6,17 +6,17 @@ use Rattle.pitch_fields.proofs.Lists.{all_drop, all_replicate}
 use Rattle.pitch_model.specs.Advertising.{Operation, accepted_by, advertised_by}
 use Rattle.pitch_model.specs.History.{Raw}
 use Rattle.pitch_model.proofs.Advertising.{advertised_within}
-use Rattle.session_ends.specs.Hearings.{Rises}
+use Rattle.session_ends.specs.layers.Hearings.{Rises}
 use Rattle.session_ends.specs.Closing.{Setup}
 use Rattle.session_ends.specs.Events.{Event, Fed, Pumped}
 use Rattle.session_ends.proofs.Runs.{rises_to, rises_nowhere}
 use Rattle.spin_server.specs.Served.{Served}
-use Rattle.spin_server.specs.Looking.{ServedLater}
+use Rattle.spin_server.specs.layers.Looking.{ServedLater}
 use Rattle.spin_server.specs.Serving.{Serving, SpinStands, runs, spin_sends}
 use Rattle.spin_server.specs.layers.Feeding.{SpinFeeds}
 use Rattle.spin_server.specs.Shelves.{Shelf}
 use Rattle.spin_server.specs.Stands.{ShelfStands}
-use Rattle.spin_server.specs.ShelfViews.{ShelfShows, seen_of}
+use Rattle.spin_server.specs.layers.ShelfViews.{ShelfShows, seen_of}
 use Rattle.spin_server.proofs.Serves.{later_order}
 use Rattle.spin_server.proofs.Shelving.{one_served, later_both, shelf_seen}
 use Rattle.spin_path.specs.Paths.{Move, path_of, all_said, IsShown, AreMoves}

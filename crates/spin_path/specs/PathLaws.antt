@@ -7,7 +7,7 @@ use Rattle.pitch_model.specs.Honest.{Honest}
 use Rattle.pitch_model.specs.Image.{image}
 use Rattle.heard_items.specs.declared.item.Item.{Item}
 use Rattle.heard_items.specs.declared.change.ImageEnd.TheVariants as end
-use Rattle.heard_items.specs.Heard.{heard}
+use Rattle.heard_items.specs.Heard.{heard, heard_all}
 use Rattle.heard_items.specs.Changes.{image_end}
 use Rattle.pitch_fields.specs.Fields.{AreBytes}
 use Rattle.session_ends.specs.Closing.{Setup}
@@ -17,7 +17,7 @@ use Rattle.spin_server.specs.Served.{Served}
 use Rattle.spin_server.specs.Serving.{Serving, SpinStands, runs}
 use Rattle.client_links.specs.Telling.{without_spare}
 use Rattle.client_links.specs.Linking.{NoLookup, LinkStands}
-use Rattle.spin_path.specs.Paths.{all_said, heard_all, Move, path_of, AreMoves, Serves, Links}
+use Rattle.spin_path.specs.Paths.{all_said, Move, path_of, AreMoves, Serves, Links}
 use Rattle.spin_path.specs.Paths.{Takes}
 
 -- ---- The law

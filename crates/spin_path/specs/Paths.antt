@@ -28,11 +28,6 @@ all_said s [] = []
 all_said s (event ∷ before) = all_said s before ++ says_at s event before
 
 -- ---- What the client hears
--- a history with items that are heard after it, one after another
-abbrev pub heard_all : List Item → List Entry → List Entry
-heard_all [] E = E
-heard_all (item ∷ items) E = heard_all items (heard item E)
-
 -- the present connection, with what happened at its two ends, what its link told that the client
 -- has not heard yet, in order, and the client's history; events and entries have the newest first.
 -- Between two connections stands one at which nothing happened yet

@@ -16,7 +16,7 @@ use Rattle.session_ends.specs.Events.{Event, Fed, Ticked, Pumped, Told}
 use Rattle.session_ends.specs.Items.{stream_items}
 use Rattle.spin_server.specs.Served.{Served, is_served}
 use Rattle.spin_server.specs.Serving.{Spin, after_login, available_bytes, next_block, spin_left, spin_login_answer, spin_request_answer, refusal_answer, image_answer, tell_bytes, spin_sends, runs}
-use Rattle.spin_server.specs.ShelfViews.{retained, seen_of}
+use Rattle.spin_server.specs.layers.ShelfViews.{retained, seen_of}
 
 -- images through 0 to 10 were advertised, of which the last ten are served
 abbrev eleven : List (List ℕ) → Served

@@ -9,7 +9,7 @@ use Rattle.session_ends.specs.declared.role.Role.{Role}
 use Rattle.session_ends.specs.declared.role.Said.{Said}
 use Rattle.session_ends.specs.Inboxes.{Inboxed}
 use Rattle.session_ends.specs.Answering.{Answer, no_answer, answers}
-use Rattle.session_ends.specs.Hearings.{Hears, HearsAll}
+use Rattle.session_ends.specs.layers.Hearings.{Hears, HearsAll}
 use Rattle.session_ends.specs.Closing.{Setup, or_else, closed_of, closes_at, logged_in}
 use Rattle.session_ends.specs.Ending.{Ending, EndKnows, known_of}
 use Rattle.session_ends.specs.layers.Ticking.{nothing_known, known_ticked, sending}
@@ -19,7 +19,7 @@ use Rattle.session_ends.proofs.Ends.{Takes, Pieced, fed_end, shut_end, sent_end,
 use Rattle.session_ends.proofs.Runs.{IsOrder, rises_rest, size_rest}
 use Rattle.pitch_model.specs.Advertising.{newest_of}
 use Rattle.spin_server.specs.Served.{Served}
-use Rattle.spin_server.specs.Looking.{ServedLater}
+use Rattle.spin_server.specs.layers.Looking.{ServedLater}
 use Rattle.spin_server.specs.Serving.{Spin, Serving, available_bytes, spin_login_answer, SpinStands}
 use Rattle.spin_server.specs.Serving.{spin_fed_answer, running_spin, spin_sends, spin_answer}
 use Rattle.spin_server.specs.Serving.{spin_said_answer, spin_message_answer, spin_request_answer}

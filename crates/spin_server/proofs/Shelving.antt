@@ -16,11 +16,11 @@ use Rattle.std.proofs.lemmas.List.Sums.{fold-append}
 use Rattle.std.proofs.lemmas.Bool.{eqb-true, eq-eqb, cases_eq, cond-true, cond-false, false≢true}
 use Rattle.pitch_model.specs.Book.{Book, after, book_after, empty_book}
 use Rattle.spin_server.specs.Served.{Served, is_served}
-use Rattle.spin_server.specs.Looking.{ServedLater, LooksUpImage, SeesNewest, SeesServed}
+use Rattle.spin_server.specs.layers.Looking.{ServedLater, LooksUpImage, SeesNewest, SeesServed}
 use Rattle.spin_server.specs.Shelves.{Shelf, ShelfKeeps, base_at}
 use Rattle.spin_server.specs.layers.ShelfCode.{IsShelf, Climbs, is_number}
 use Rattle.spin_server.specs.Stands.{ShelfStands}
-use Rattle.spin_server.specs.ShelfViews.{ShelfShows, OneServed, seen_of}
+use Rattle.spin_server.specs.layers.ShelfViews.{ShelfShows, OneServed, seen_of}
 
 abbrev pub made : Book → List (List ℕ) → ℕ → List ℕ → Shelf
 made base later pushed served = record { base = base; after = later; pushed = pushed; served = served }

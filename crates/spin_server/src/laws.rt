@@ -5,12 +5,12 @@ ghost use Rattle.std.specs.List.{list_any};
 ghost use Rattle.pitch_model.specs.Advertising.{Operation, advertised_by, last_ten, newest_of};
 ghost use Rattle.session_ends.specs.layers.Laws.{ClosesOnce, RisesNowhere};
 ghost use Rattle.spin_server.specs.Served.{Served, is_served};
-ghost use Rattle.spin_server.specs.Looking.{ServedLater};
+ghost use Rattle.spin_server.specs.layers.Looking.{ServedLater};
 ghost use Rattle.spin_server.specs.layers.Feeding.{SpinAnswersOnce};
 ghost use Rattle.spin_server.specs.Shelves.{Shelf};
 ghost use Rattle.spin_server.specs.Stands.{ShelfStands};
-ghost use Rattle.spin_server.specs.ShelfViews.{ShelfShows, OneServed, ShelfHasOneView};
-ghost use Rattle.spin_server.specs.ShelfViews.{seen_of};
+ghost use Rattle.spin_server.specs.layers.ShelfViews.{ShelfShows, OneServed, ShelfHasOneView};
+ghost use Rattle.spin_server.specs.layers.ShelfViews.{seen_of};
 
 /// The laws of cutting a session's bytes into pieces: two pieces close the end exactly where both
 /// at once do, and what is answered to both at once is what is answered to the one, then to the

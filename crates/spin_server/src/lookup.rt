@@ -2,7 +2,7 @@
 
 ghost use Rattle.std.specs.Prelude.{OnErr, IfOk, Bool, true, ◌≡◌};
 ghost use Rattle.spin_server.specs.Served.{Served};
-ghost use Rattle.spin_server.specs.Looking.{SeesNewest, SeesServed, LooksUpImage};
+ghost use Rattle.spin_server.specs.layers.Looking.{SeesNewest, SeesServed, LooksUpImage};
 
 use pitch_fields::OutOfMemory;
 use pitch_messages::RawList;

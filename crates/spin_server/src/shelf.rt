@@ -12,7 +12,7 @@ ghost use Rattle.pitch_model.specs.Advertising.{newest_of};
 ghost use Rattle.spin_server.specs.Shelves.{ShelfKeeps, base_at};
 ghost use Rattle.spin_server.specs.layers.ShelfCode.{is_number};
 ghost use Rattle.spin_server.specs.Stands.{ShelfStands};
-ghost use Rattle.spin_server.specs.ShelfViews.{retained};
+ghost use Rattle.spin_server.specs.layers.ShelfViews.{retained};
 
 use crate::lookup::{ImageLookup, Imaged};
 use arrayvec::ArrayVec;
@@ -257,7 +257,7 @@ impl ImageShelf {
 }
 
 impl ImageLookup for ImageShelf {
-    ghost use Rattle.spin_server.specs.ShelfViews.{ShelfShows};
+    ghost use Rattle.spin_server.specs.layers.ShelfViews.{ShelfShows};
 
     ghost shows = { λ s v. ShelfShows s v };
 

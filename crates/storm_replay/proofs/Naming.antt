@@ -8,8 +8,9 @@ use Rattle.pitch_text.specs.declared.verb.ScheduleEntry.{ScheduleEntry}
 use Rattle.pitch_text.specs.declared.verb.Session.TheVariants.{Grp}
 use Rattle.pitch_text.specs.declared.verb.Verb.{Verb}
 use Rattle.pitch_text.specs.declared.verb.Verb.TheVariants as verbs
-use Rattle.schedule_replay.specs.Replay.{verbs_of, default_limits, limits_at, limits_of}
+use Rattle.schedule_replay.specs.Replay.{verbs_of, limits_at, limits_of}
 use Rattle.schedule_replay.specs.Worlds.{IsNamed}
+use Rattle.world_model.specs.Ends.{default_limits}
 use Rattle.storm_replay.specs.Storm.{start_verbs, step_verbs, end_verbs, entries_for, by_each, storm_steps, storm_entries}
 use Rattle.storm_replay.specs.Summary.{storm_lines}
 use Rattle.storm_replay.specs.layers.Units.{unit_steps, unit_course}

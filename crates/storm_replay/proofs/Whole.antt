@@ -13,25 +13,15 @@ use Rattle.pitch_text.specs.declared.verb.Session.{Session}
 use Rattle.pitch_text.specs.declared.verb.Session.TheVariants.{Grp, Spin}
 use Rattle.pitch_text.specs.declared.verb.Verb.{Verb}
 use Rattle.pitch_text.specs.declared.verb.Verb.TheVariants as verbs
-use Rattle.pitch_model.specs.declared.ask.Ask.{Ask}
-use Rattle.pitch_model.specs.declared.ask.Ask.TheVariants as asks
 use Rattle.pitch_model.specs.declared.status.Status.{Status}
 use Rattle.pitch_model.specs.declared.status.Status.TheVariants.{Current}
-use Rattle.pitch_model.specs.Asking.{ask_of}
 use Rattle.pitch_model.specs.Book.{Book, book_after}
-use Rattle.pitch_model.specs.History.{SpinDown}
-use Rattle.pitch_model.specs.History as entry
 use Rattle.pitch_model.specs.Levels.{shares}
 use Rattle.pitch_model.specs.Status.{status_of}
 use Rattle.unit_packets.specs.Blocks.{Block}
 use Rattle.unit_packets.specs.Cutting.{blocks_of}
 use Rattle.feed_lines.specs.UnitLine.{unit_line}
 use Rattle.drill_client.specs.DrillText.{drill_line, drill_text}
-use Rattle.session_ends.specs.Events.{Event, Ticked}
-use Rattle.client_links.specs.Linking.{Lookups}
-use Rattle.client_end.specs.Came.{EndSetup, EndState, Second, end_step, grp_link_ticks, both_links_tick, ask_sent}
-use Rattle.client_end.specs.Links.{spin_link}
-use Rattle.client_end.specs.Sessions.{happened, link_happened, link_settled}
 use Rattle.sending_end.specs.Waiting.{took}
 use Rattle.sending_end.specs.declared.session.Session.TheVariants.{Proxy}
 use Rattle.venue_core.specs.Commands.{raw_of}
@@ -48,7 +38,7 @@ use Rattle.world_model.specs.Verbs.{done, next_state, state_of, venue_has, clien
 use Rattle.world_model.specs.declared.limits.Limits.{Limits}
 use Rattle.world_model.specs.declared.outcome.Outcome.TheVariants as outcome
 use Rattle.world_laws.proofs.Finish.{proxy_cut_current, proxy_cut_accepted, book_of_all}
-use Rattle.world_laws.proofs.Joined.{carries, either}
+use Rattle.world_laws.proofs.Joined.{carries, either, second_spin}
 use Rattle.world_laws.proofs.Reached.{AreSayable, sayable_verbs}
 use Rattle.schedule_replay.specs.Replay.{verbs_of, limits_of}
 use Rattle.storm_replay.specs.Ended.{whole_text}
@@ -64,20 +54,6 @@ use Rattle.storm_replay.proofs.Reading.{step_given}
 -- the messages stay, and where no connection with a Spin Server stood none does
 abbrev Stays : State → State → Type 0
 Stays s x = (x.venue.messages ≡ s.venue.messages) × (s.client.spin ≡ None → x.client.spin ≡ None)
-
-second_alone : (c : EndSetup) (now : EndState) → now.spin ≡ None → (end_step c Second now).spin ≡ None
-second_alone c now none = by (ask_of c.hold ticked.heard)
-  where
-    ticked : EndState
-    ticked = both_links_tick c now
-
-    alone : ticked.spin ≡ None
-    alone = ap (λ (o : Option (List (Event Lookups))). (link_settled (spin_link c.unit) SpinDown (link_happened Ticked (record { heard = (grp_link_ticks now).heard; link = o }))).link) none
-
-    by : (a : Option Ask) → (ask_sent c a (record ticked { heard = entry.Ticked a ∷ ticked.heard })).spin ≡ None
-    by None = alone
-    by (Some (asks.Gap first count)) = alone
-    by (Some (asks.Spin sequence)) = ap (happened _) alone
 
 cut_messages : (s : VenueSetup) (session : Session) (now : VenueState) → (venue_step s (server_cut session) now).messages ≡ now.messages
 cut_messages s Grp now = refl
@@ -123,7 +99,7 @@ module _ (unit : ℕ) (limits : Limits) (s : State) where
   stays_tick : Stays s (next_state unit limits verbs.Tick s)
   stays_tick =
       let passed : State = seconds unit limits s in
-      settled_stays Spin (settled unit limits Grp passed) (settled_stays Grp passed (refl, second_alone (client_setup unit limits) s.client))
+      settled_stays Spin (settled unit limits Grp passed) (settled_stays Grp passed (refl, second_spin (client_setup unit limits) s.client))
 
 -- ---- Several verbs, the first of which comes first
 abbrev after : ℕ → Limits → List Verb → State → State

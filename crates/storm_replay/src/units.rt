@@ -18,11 +18,11 @@ use crate::verbs::{Part, append_part};
 use pitch_fields::OutOfMemory;
 use pitch_io::Gate;
 use pitch_text::Verb;
-use schedule_replay::{WorldList, default_limits, replay_work};
+use schedule_replay::{WorldList, replay_work};
 use std::alloc::Global;
 use std::thread;
 use std::thread::Threads;
-use world_model::World;
+use world_model::{World, default_limits};
 
 // Does a verb in a world.
 fn do_verb(world: &mut World, verb: &Verb) -> Result<(), OutOfMemory>

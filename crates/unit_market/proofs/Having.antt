@@ -6,7 +6,7 @@ use Rattle.pitch_model.specs.Advertising.{Operation, Accept, Advertise, accepted
 use Rattle.pitch_model.specs.History.{Raw}
 use Rattle.gap_store.specs.Look.{View, Store, store_of}
 use Rattle.spin_server.specs.Shelves.{Shelf}
-use Rattle.spin_server.specs.ShelfViews.{seen_of}
+use Rattle.spin_server.specs.layers.ShelfViews.{seen_of}
 use Rattle.spin_server.specs.Stands.{ShelfStands}
 use Rattle.venue_core.specs.Standing.{VenueState}
 use Rattle.venue_core.specs.Stands.{Stands}

@@ -2,7 +2,7 @@
 use Rattle.std.proofs.Common.{ℕ, List, subst}
 use Rattle.pitch_model.specs.History.{Raw}
 use Rattle.spin_server.specs.Shelves.{Shelf}
-use Rattle.spin_server.specs.ShelfViews.{ShelfShows}
+use Rattle.spin_server.specs.layers.ShelfViews.{ShelfShows}
 use Rattle.spin_server.proofs.Shelving.{shelf_seen}
 use Rattle.unit_market.specs.Markets.{KeepsShelf}
 use Rattle.unit_market.specs.Views.{image_view}

@@ -1,11 +1,9 @@
 -- What a market begins with and has to send, and what its servers look up.
-use Rattle.std.specs.Prelude.{◌≡◌, ℕ, List, ◌+◌, [], drop, Option}
+use Rattle.std.specs.Prelude.{ℕ, List, ◌+◌, [], drop, Option}
 use Rattle.unit_packets.specs.Packing.{packed}
-use Rattle.gap_store.specs.Look.{View, store_of}
 use Rattle.pitch_model.specs.Advertising.{last_ten}
 use Rattle.pitch_model.specs.History.{Raw}
 use Rattle.spin_server.specs.Served.{Served}
-use Rattle.spin_server.specs.ShelfViews.{ShelfShows}
 use Rattle.unit_market.specs.Standing.{MarketState}
 use Rattle.unit_market.specs.Markets.{Journal}
 
@@ -22,16 +20,7 @@ pending j = packed j.unit (j.sent + 1) (drop j.sent j.messages)
 abbrev pub last_accepted : MarketState → Option Raw
 last_accepted market = market.venue.last
 
--- ---- What can be looked up
--- for the proxy
-abbrev pub ShowsMessages : MarketState → View → Type 0
-ShowsMessages market v = market.store ≡ store_of v
-
--- for the Spin Server
-abbrev pub ShowsImages : MarketState → Served → Type 0
-ShowsImages market v = ShelfShows market.shelf v
-
--- all messages, and of the sequences the last ten
+-- what the Spin Server looks up: all messages, and of the sequences the last ten
 abbrev pub image_view : List Raw → List ℕ → Served
 image_view messages advertised =
     record { messages = messages; advertised = last_ten advertised }

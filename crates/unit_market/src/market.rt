@@ -15,8 +15,8 @@ ghost use Rattle.venue_core.specs.Commands.{message_of, raw_of};
 ghost use Rattle.venue_core.specs.Refusals.{refusal, IsAnswer};
 ghost use Rattle.unit_market.specs.Markets.{Journal, MarketHas};
 ghost use Rattle.unit_market.specs.Views.{new_journal, pending};
-ghost use Rattle.unit_market.specs.Views.{ShowsMessages, ShowsImages};
 ghost use Rattle.unit_market.specs.Views.{last_accepted};
+ghost use Rattle.unit_market.specs.layers.Showing.{ShowsMessages, ShowsImages};
 
 use gap_store::{Found, GapLookup, GapStore};
 use order_book::UnitBook;

@@ -11,10 +11,10 @@ use Rattle.venue_core.specs.declared.error.VenueError.{VenueError}
 use Rattle.session_ends.specs.Answering.{Answer, no_answer}
 use Rattle.session_ends.specs.Events.{Event, Fed, Ticked, Pumped, Told}
 use Rattle.session_ends.specs.Sending.{new_items}
-use Rattle.grp_session.specs.Budget.{Spent, next_second}
+use Rattle.grp_session.specs.Budget.{Limits, Spent, next_second}
 use Rattle.grp_session.specs.Serving.{Source, proxy_answer}
 use Rattle.spin_server.specs.Served.{Served}
-use Rattle.unit_market.specs.Markets.{Journal}
+use Rattle.unit_market.specs.Markets.{Journal, kept_view}
 use Rattle.unit_market.specs.Views.{image_view, pending}
 use Rattle.venue_end.specs.Servers.{limits_of, proxy_setup, proxy_says, spin_says}
 use Rattle.venue_end.specs.Sessions.{Session, session_of, at_session, without, with_new}
@@ -88,16 +88,20 @@ image_advertised s now = record now {
 }
 
 -- ---- The proxy
--- what it has when bytes come to a session: all messages that were accepted by then, of which so
--- many of the last are kept; and what all sessions spent by then
-abbrev pub proxy_source : VenueSetup → VenueState → List (Event Source) → List ℕ → Source
-proxy_source s now before bytes = record {
+-- what it has when bytes come to a session: all messages of a journal, of which so many of the last
+-- are kept; the limits, and what was spent
+abbrev pub gap_source : Journal → Limits → Spent → List (Event Source) → List ℕ → Source
+gap_source j limits spent before bytes = record {
   there = true;
-  views = replicate (length (new_items before bytes))
-      (record { messages = now.messages; kept = s.kept });
-  limits = limits_of s;
-  spent = now.spent;
+  views = replicate (length (new_items before bytes)) (kept_view j);
+  limits = limits;
+  spent = spent;
 }
+
+-- here all messages that were accepted by then, and what all sessions spent by then
+abbrev pub proxy_source : VenueSetup → VenueState → List (Event Source) → List ℕ → Source
+proxy_source s now before bytes =
+    gap_source (journal_in s now) (limits_of s) now.spent before bytes
 
 -- what it answers to them: nothing where there is no session
 abbrev pub answers_in : VenueSetup → VenueState → List ℕ → Option (Session Source) → Answer Spent

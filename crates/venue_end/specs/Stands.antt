@@ -11,6 +11,7 @@ use Rattle.unit_market.specs.Markets.{MarketHas}
 use Rattle.venue_end.specs.Servers.{limits_of, proxy_setup, spin_setup}
 use Rattle.venue_end.specs.Sessions.{Session}
 use Rattle.venue_end.specs.Came.{VenueCame, VenueState, AllCut, journal_in, venue_after}
+use Rattle.venue_end.specs.declared.servers.Servers.{Servers}
 use Rattle.venue_end.specs.declared.setup.VenueSetup.{VenueSetup}
 use Rattle.venue_end.specs.declared.table.Place.{Place}
 use Rattle.venue_end.specs.declared.table.SessionTable.{SessionTable}
@@ -42,22 +43,24 @@ abbrev pub TableIs : {S X : Type 0} → (S → VenueSetup → List (Event X) →
     → VenueSetup → SessionTable S → List (Session X) → Type 0
 TableIs is_server s table sessions = AllZip (PlaceIs is_server s) table.places.items sessions
 
--- ---- The end
+-- ---- The servers
 -- a budget has the account's limits, and counts what was spent
 pub record BudgetIs (s : VenueSetup) (budget : Counts) (spent : Spent) : Type 0 where
   pub limits_are : budget.limits ≡ limits_of s
   pub counted : Counted budget spent
 
--- an end whose sessions may have failed
-pub record CoreIs (s : VenueSetup) (e : VenueEnd) (now : VenueState) : Type 0 where
-  pub setup_is : e.setup ≡ s
-  pub market : MarketHas e.market (journal_in s now)
-  pub budget : BudgetIs s e.budget now.spent
+-- servers that were made so have these sessions, which spent this
+pub record ServersAre (s : VenueSetup) (servers : Servers) (now : VenueState) : Type 0 where
+  pub setup_is : servers.setup ≡ s
+  pub budget : BudgetIs s servers.budget now.spent
+  pub proxies : TableIs IsProxy s servers.proxies now.proxies
+  pub spins : TableIs IsSpinServer s servers.spins now.spins
 
+-- ---- The end
+-- its market has the messages and the sequences, and its servers the sessions
 pub record VenueIs (s : VenueSetup) (e : VenueEnd) (now : VenueState) : Type 0 where
-  pub core : CoreIs s e now
-  pub proxies : TableIs IsProxy s e.proxies now.proxies
-  pub spins : TableIs IsSpinServer s e.spins now.spins
+  pub market : MarketHas e.market (journal_in s now)
+  pub servers : ServersAre s e.servers now
 
 -- an end that was made so stands for all that came to it, the newest first
 abbrev pub VenueStands : VenueSetup → VenueEnd → List VenueCame → Type 0

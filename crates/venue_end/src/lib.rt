@@ -7,17 +7,24 @@
 //!
 //! Whoever owns the sockets makes one for each unit, gives each connection a number, hands over its
 //! bytes, puts what waits for it, and calls `second` once a second.
+//!
+//! Its sessions alone are [`Servers`], for a unit whose messages and images are elsewhere: they
+//! answer from any [`VenueSide`].
 #![tactic(auto)]
 
 mod laws;
 mod proxies;
+mod servers;
 mod setup;
+mod side;
 mod spins;
 mod table;
 mod venue;
 
 pub use crate::laws::images_are_the_venues;
+pub use crate::servers::Servers;
 pub use crate::setup::VenueSetup;
+pub use crate::side::VenueSide;
 pub use crate::venue::VenueEnd;
 pub use session_ends::{Account, CloseCause, Closed};
 pub use venue_core::VenueError;

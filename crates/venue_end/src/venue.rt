@@ -9,44 +9,35 @@ ghost use Rattle.heard_items.specs.Datagrams.{IsPiece};
 ghost use Rattle.pitch_model.specs.Book.{book_after};
 ghost use Rattle.venue_core.specs.Refusals.{refusal, IsAnswer};
 
+use crate::servers::Servers;
 use crate::setup::VenueSetup;
-use crate::table::SessionTable;
-use grp_session::{GapBudget, GrpServer};
 use order_book::UnitBook;
 use pitch_fields::OutOfMemory;
 use pitch_text::Command;
-use session_ends::{Account, Closed};
-use spin_server::SpinServer;
+use session_ends::Closed;
 use std::alloc::Global;
 use unit_market::Market;
 use unit_packets::DatagramList;
 use venue_core::VenueError;
 
-/// The venue's end of a unit: its market, the budget of gap requests, and the sessions with its
-/// proxy and with its Spin Server.
+/// The venue's end of a unit: its market, and the servers that answer from it, with the budget of
+/// gap requests and all sessions.
 #[derive(Drop)]
 pub struct VenueEnd {
-    alloc: Global,
-    setup: VenueSetup,
     market: Market,
-    budget: GapBudget,
-    proxies: SessionTable<GrpServer>,
-    spins: SessionTable<SpinServer>,
+    servers: Servers,
 }
 
 impl VenueEnd {
-    ghost use Rattle.session_ends.specs.Events.{Ticked};
-    ghost use Rattle.venue_end.specs.Servers.{proxy_setup, spin_setup, proxy_says, spin_says};
+    ghost use Rattle.venue_end.specs.Servers.{proxy_setup, spin_setup};
     ghost use Rattle.venue_end.specs.Sessions.{session_of, waiting_in, closed_in};
-    ghost use Rattle.venue_end.specs.Sessions.{happens_at_all};
-    ghost use Rattle.venue_end.specs.Came.{VenueState, Commanded, Flushed, Beaten, Advertised};
+    ghost use Rattle.venue_end.specs.Came.{Commanded, Flushed, Beaten, Advertised};
     ghost use Rattle.venue_end.specs.Came.{ProxyMade, ProxyTook, ProxyPut, ProxyCut, SpinMade};
     ghost use Rattle.venue_end.specs.Came.{SpinTook, SpinPumped, SpinPut, SpinCut, Second, AllCut};
-    ghost use Rattle.venue_end.specs.Came.{venue_after, venue_step, on_lines, on_gap_line};
-    ghost use Rattle.venue_end.specs.Stands.{VenueIs, CoreIs, VenueStands, OfVenue, Comes};
+    ghost use Rattle.venue_end.specs.Came.{venue_after, on_lines, on_gap_line};
+    ghost use Rattle.venue_end.specs.Stands.{VenueStands, OfVenue, Comes};
     ghost use Rattle.venue_end.specs.Stands.{ComesAndCuts, StandsStill};
     ghost use Rattle.venue_end.specs.Feeding.{left_at, runs_on};
-    ghost use Rattle.venue_end.specs.declared.setup.VenueSetup.{VenueSetup};
 
     /// An end to which nothing came yet, with all memory of its store. Its proxy keeps at least 1
     /// and at most 65,536 messages.
@@ -54,14 +45,9 @@ impl VenueEnd {
         requires { (1 ≤ setup.now.kept) × (setup.now.kept ≤ most_held) }
         ensures stands { IfOk result (λ e. VenueStands setup.now e []) }
     {
-        let market = Market::make(alloc, setup.unit, setup.kept)?;
         Ok(VenueEnd {
-            alloc,
-            setup: *setup,
-            market,
-            budget: GapBudget::make(setup.second, setup.minute, setup.day),
-            proxies: SessionTable::make(alloc),
-            spins: SessionTable::make(alloc),
+            market: Market::make(alloc, setup.unit, setup.kept)?,
+            servers: Servers::make(alloc, setup),
         })
     }
 
@@ -69,7 +55,7 @@ impl VenueEnd {
     pub fn unit(&self) -> u8
         ensures { OfVenue self.now (λ s before. result ≡ s.unit) }
     {
-        self.setup.unit
+        self.servers.unit()
     }
 
     /// How many messages were accepted.
@@ -139,22 +125,8 @@ impl VenueEnd {
             (StandsStill self.old self.new ⊎ ComesAndCuts self.old self.new Advertised) }
     {
         let sequence = self.market.advertise()?;
-        match self.spins.tell_all(sequence) {
-            Ok(()) => Ok(sequence),
-            Err(error) => {
-                self.clear();
-                Err(error)
-            }
-        }
-    }
-
-    // The one account that may log in.
-    fn accounts(&self) -> Result<Vec<Account>, OutOfMemory>
-        ensures { IfOk result (λ accounts. accounts.items ≡ self.now.setup.account ∷ []) }
-    {
-        let mut accounts = Vec::new(self.alloc);
-        accounts.push(self.setup.account)?;
-        Ok(accounts)
+        self.servers.tell(sequence)?;
+        Ok(sequence)
     }
 
     /// A connection with the proxy was made, which has this number from now on; one that had it has
@@ -163,9 +135,7 @@ impl VenueEnd {
         ensures stands { OnOk result (Comes self.old self.new (ProxyMade id)) }
         ensures err { OnErr result (StandsStill self.old self.new) }
     {
-        let accounts = self.accounts()?;
-        let server = GrpServer::make(self.alloc, self.setup.unit, accounts, false);
-        self.proxies.open(id, server)
+        self.servers.connect_proxy(id)
     }
 
     /// Bytes came to the proxy by the connection of a number; where there is none they are passed
@@ -192,9 +162,9 @@ impl VenueEnd {
             (λ s before. session_of id (venue_after s before).proxies ≡ None → IsOk result) }
     {
         // From here on it is known that the unit is a byte.
-        let _unit = self.setup.unit;
-        self.proxies
-            .feed(id, piece, &mut self.budget, &mut self.market, gap_line)
+        let _unit = self.unit();
+        self.servers
+            .take_proxy(id, piece, &mut self.market, gap_line)
     }
 
     /// Whether a session with the proxy has the number.
@@ -202,7 +172,7 @@ impl VenueEnd {
         ensures { OfVenue self.now (λ s before.
             result ≡ is_some (session_of id (venue_after s before).proxies)) }
     {
-        self.proxies.has(id)
+        self.servers.has_proxy(id)
     }
 
     /// What waits to be put to a session with the proxy; nothing where there is none.
@@ -210,14 +180,14 @@ impl VenueEnd {
         ensures { OfVenue self.now (λ s before.
             result.now ≡ waiting_in (session_of id (venue_after s before).proxies)) }
     {
-        self.proxies.said_to(id)
+        self.servers.said_by_proxy(id)
     }
 
     /// So many bytes of what waits were put, or all.
     pub fn put_by_proxy(&mut self, id: u32, count: usize)
         ensures stands { Comes self.old self.new (ProxyPut id count) }
     {
-        self.proxies.put(id, count)
+        self.servers.put_by_proxy(id, count)
     }
 
     /// Why the proxy's end of a session closed and where, or None while it has not, and where there
@@ -226,14 +196,14 @@ impl VenueEnd {
         ensures { OfVenue self.now (λ s before.
             result ≡ closed_in (proxy_setup s) (session_of id (venue_after s before).proxies)) }
     {
-        self.proxies.closed(id)
+        self.servers.proxy_closed(id)
     }
 
     /// A connection with the proxy has ended, where one had the number.
     pub fn cut_proxy(&mut self, id: u32)
         ensures stands { Comes self.old self.new (ProxyCut id) }
     {
-        self.proxies.cut(id)
+        self.servers.cut_proxy(id)
     }
 
     /// A connection with the Spin Server was made, which has this number from now on; one that had
@@ -242,9 +212,7 @@ impl VenueEnd {
         ensures stands { OnOk result (Comes self.old self.new (SpinMade id)) }
         ensures err { OnErr result (StandsStill self.old self.new) }
     {
-        let accounts = self.accounts()?;
-        let server = SpinServer::make(self.alloc, self.setup.unit, accounts, false);
-        self.spins.open(id, server)
+        self.servers.connect_spin(id)
     }
 
     /// Bytes came to the Spin Server by the connection of a number; where there is none they are
@@ -256,7 +224,7 @@ impl VenueEnd {
         ensures none { OfVenue self.old
             (λ s before. session_of id (venue_after s before).spins ≡ None → IsOk result) }
     {
-        self.spins.feed(id, piece, &mut self.market)
+        self.servers.take_spin(id, piece, &mut self.market)
     }
 
     /// The Spin Server is asked for the next block of the image that it sends to a session, if it
@@ -273,7 +241,7 @@ impl VenueEnd {
         ensures none { OfVenue self.old
             (λ s before. session_of id (venue_after s before).spins ≡ None → IsOk result) }
     {
-        self.spins.pump(id)
+        self.servers.pump_spin(id)
     }
 
     /// Whether a session with the Spin Server has the number.
@@ -281,7 +249,7 @@ impl VenueEnd {
         ensures { OfVenue self.now (λ s before.
             result ≡ is_some (session_of id (venue_after s before).spins)) }
     {
-        self.spins.has(id)
+        self.servers.has_spin(id)
     }
 
     /// What waits to be put to a session with the Spin Server; nothing where there is none.
@@ -289,14 +257,14 @@ impl VenueEnd {
         ensures { OfVenue self.now (λ s before.
             result.now ≡ waiting_in (session_of id (venue_after s before).spins)) }
     {
-        self.spins.said_to(id)
+        self.servers.said_by_spin(id)
     }
 
     /// So many bytes of what waits were put, or all.
     pub fn put_by_spin(&mut self, id: u32, count: usize)
         ensures stands { Comes self.old self.new (SpinPut id count) }
     {
-        self.spins.put(id, count)
+        self.servers.put_by_spin(id, count)
     }
 
     /// Why the Spin Server's end of a session closed and where, or None while it has not, and where
@@ -305,28 +273,14 @@ impl VenueEnd {
         ensures { OfVenue self.now (λ s before.
             result ≡ closed_in (spin_setup s) (session_of id (venue_after s before).spins)) }
     {
-        self.spins.closed(id)
+        self.servers.spin_closed(id)
     }
 
     /// A connection with the Spin Server has ended, where one had the number.
     pub fn cut_spin(&mut self, id: u32)
         ensures stands { Comes self.old self.new (SpinCut id) }
     {
-        self.spins.cut(id)
-    }
-
-    // A second passes at all servers.
-    fn tick_servers(&mut self) -> Result<(), OutOfMemory>
-        ensures stands { OnOk result ((s : VenueSetup) (now : VenueState) → VenueIs s self.old now
-            → VenueIs s self.new (record now {
-              proxies = happens_at_all (proxy_says s) Ticked now.proxies;
-              spins = happens_at_all (spin_says s) Ticked now.spins;
-            })) }
-        ensures core { (s : VenueSetup) (now : VenueState)
-            → CoreIs s self.old now → CoreIs s self.new now }
-    {
-        self.proxies.tick_all()?;
-        self.spins.tick_all()
+        self.servers.cut_spin(id)
     }
 
     /// A second passes: the budget's next one begins, and every server ticks. What the servers say
@@ -335,29 +289,13 @@ impl VenueEnd {
         ensures stands { OnOk result (Comes self.old self.new Second) }
         ensures err { OnErr result (ComesAndCuts self.old self.new Second) }
     {
-        self.budget.tick();
-        match self.tick_servers() {
-            Ok(()) => Ok(()),
-            Err(error) => {
-                self.clear();
-                Err(error)
-            }
-        }
-    }
-
-    // All sessions end, whatever they are.
-    fn clear(&mut self)
-        ensures { (s : VenueSetup) (now : VenueState) → CoreIs s self.old now
-            → VenueIs s self.new (venue_step s AllCut now) }
-    {
-        self.proxies.clear();
-        self.spins.clear();
+        self.servers.second()
     }
 
     /// All connections have ended.
     pub fn cut_all(&mut self)
         ensures stands { Comes self.old self.new AllCut }
     {
-        self.clear();
+        self.servers.cut_all();
     }
 }

@@ -12,7 +12,7 @@ use Rattle.unit_packets.proofs.OnePacking.{packing_is_computed}
 use Rattle.unit_packets.proofs.Streams.{of_nothing}
 use Rattle.heard_items.specs.declared.item.Item.{Item}
 use Rattle.heard_items.specs.declared.item.Item.TheVariants as item
-use Rattle.heard_items.specs.Heard.{heard}
+use Rattle.heard_items.specs.Heard.{heard, heard_all}
 use Rattle.pitch_model.specs.declared.ask.Ask.TheVariants as asks
 use Rattle.pitch_model.specs.Advertising.{last_ten, newest_of, with_sequence}
 use Rattle.pitch_model.specs.Asking.{ask_of}
@@ -33,7 +33,6 @@ use Rattle.grp_session.specs.Budget.{Spent, next_second}
 use Rattle.spin_server.specs.Served.{Served, is_served}
 use Rattle.spin_server.specs.Serving.{Spin, spin_sends, spin_fed_answer, available_bytes, after_login, served_answer, refusal_answer}
 use Rattle.client_links.specs.Linking.{Lookups, NoLookup, link_sends, login_bytes}
-use Rattle.spin_path.specs.Paths.{heard_all}
 use Rattle.spin_path.specs.PathLaws.{IsFeed}
 use Rattle.spin_path.proofs.Pictures.{image_raws, image_others, image_adds}
 use Rattle.client_end.specs.Links.{spin_link, link_says}

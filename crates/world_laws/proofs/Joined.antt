@@ -134,7 +134,7 @@ second_grp c now none = by (ask_of c.hold (both_links_tick c now).heard)
     by (Some (asks.Gap first count)) = ap (happened _) ticked
     by (Some (asks.Spin sequence)) = ticked
 
-second_spin : (c : EndSetup) (now : EndState) → now.spin ≡ None → (end_step c client.Second now).spin ≡ None
+pub second_spin : (c : EndSetup) (now : EndState) → now.spin ≡ None → (end_step c client.Second now).spin ≡ None
 second_spin c now none = by (ask_of c.hold (both_links_tick c now).heard)
   where
     grp_heard : List Entry

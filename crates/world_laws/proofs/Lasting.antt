@@ -5,7 +5,8 @@ use Rattle.pitch_text.specs.declared.verb.Verb.{Verb}
 use Rattle.unit_packets.specs.Blocks.{Block}
 use Rattle.heard_items.specs.declared.item.Item.{Item}
 use Rattle.heard_items.specs.declared.item.Item.TheVariants as item
-use Rattle.heard_items.specs.Heard.{heard, heard_block, heard_messages, heard_sequenced, is_accepted}
+use Rattle.heard_items.specs.Heard.{heard, heard_block, heard_messages, heard_sequenced}
+use Rattle.heard_items.specs.Heard.{is_accepted, heard_all}
 use Rattle.pitch_model.specs.declared.ask.Ask.{Ask}
 use Rattle.pitch_model.specs.declared.ask.Ask.TheVariants as asks
 use Rattle.pitch_model.specs.Asking.{ask_of}
@@ -17,7 +18,6 @@ use Rattle.pitch_model.proofs.Rises.{reach_rises}
 use Rattle.session_ends.specs.Closing.{Setup, closed_of}
 use Rattle.session_ends.specs.Events.{Ticked}
 use Rattle.client_links.specs.Linking.{link_tells}
-use Rattle.spin_path.specs.Paths.{heard_all}
 use Rattle.client_end.specs.Came.{Came, EndSetup, EndState, Heard, GrpMade, GrpTook, GrpCut, GrpLost, SpinMade, SpinTook, SpinCut, SpinLost, Second, of_grp, of_spin, grp_link_ticks, both_links_tick, ask_sent, end_step}
 use Rattle.client_end.specs.Links.{gap_link, spin_link}
 use Rattle.client_end.specs.Sessions.{SessionState, heard_cut, heard_in_part, settled_at, fed_at, link_took, happened}

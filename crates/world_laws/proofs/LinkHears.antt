@@ -27,7 +27,7 @@ use Rattle.session_ends.specs.Saying.{said_to, said_by, is_login}
 use Rattle.session_ends.specs.Sending.{message_bytes, heartbeat_bytes}
 use Rattle.client_links.specs.Linking.{Lookups, NoLookup}
 use Rattle.client_links.specs.Telling.{tells, told_of}
-use Rattle.spin_path.specs.Paths.{heard_all}
+use Rattle.heard_items.specs.Heard.{heard_all}
 use Rattle.spin_path.proofs.Links.{link_of}
 use Rattle.spin_path.proofs.Pieces.{IsOther, one_told, beat_told, others_told}
 use Rattle.world_laws.proofs.LinkPieces.{IsReady, TellsOf, tells_none, tells_both, tells_one}

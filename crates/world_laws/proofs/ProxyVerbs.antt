@@ -24,7 +24,7 @@ use Rattle.session_ends.specs.Events.{Event, Fed, Ticked, Asked}
 use Rattle.grp_session.specs.Budget.{Spent, next_second}
 use Rattle.grp_session.specs.Serving.{Source, proxy_answer}
 use Rattle.client_links.specs.Linking.{Lookups, NoLookup, link_tells}
-use Rattle.spin_path.specs.Paths.{heard_all}
+use Rattle.heard_items.specs.Heard.{heard_all}
 use Rattle.client_end.specs.Came.{EndSetup, EndState, GrpTook, with_grp, asks_proxy, asks_spin_server, ask_sent, both_links_tick, end_step, second_ask, spin_link_ticks}
 use Rattle.client_end.specs.Links.{gap_link, link_says}
 use Rattle.client_end.specs.Sessions.{SessionState, settled_at}

@@ -9,7 +9,7 @@ use Rattle.pitch_messages.specs.declared.session.SessionMessage.{SessionMessage}
 use Rattle.pitch_messages.specs.declared.session.SessionMessage.TheVariants.{Login, LoginReply, GapRequest, GapReply, SpinAvailable, SpinRequest, SpinReply, SpinFinished}
 use Rattle.heard_items.specs.declared.item.Item.{Item}
 use Rattle.heard_items.specs.declared.item.Item.TheVariants as item
-use Rattle.heard_items.specs.Heard.{heard, heard_block}
+use Rattle.heard_items.specs.Heard.{heard, heard_block, heard_all}
 use Rattle.pitch_model.specs.declared.ask.Ask.{Ask}
 use Rattle.pitch_model.specs.declared.ask.Ask.TheVariants as asks
 use Rattle.pitch_model.specs.Asking.{is_grp_up, is_spin_up, advertised_of, ask_of, ask_with, spin_or_gap, gap_or_none, gap_ask, asks_spin, wants, is_idle, least_held, owes, asked_at}
@@ -25,7 +25,6 @@ use Rattle.session_ends.specs.Events.{Event, Ticked, Asked}
 use Rattle.session_ends.specs.Saying.{heard_by}
 use Rattle.client_links.specs.Linking.{Lookups, link_tells}
 use Rattle.client_links.specs.Telling.{told_of, told_said, run_of}
-use Rattle.spin_path.specs.Paths.{heard_all}
 use Rattle.client_end.specs.Came.{Came, EndSetup, EndState, Heard, GrpMade, GrpTook, GrpCut, GrpLost, SpinMade, SpinTook, SpinCut, SpinLost, Second, of_grp, of_spin, grp_link_ticks, both_links_tick, ask_sent, client_asks, end_step}
 use Rattle.client_end.specs.Links.{gap_link, spin_link}
 use Rattle.client_end.specs.Sessions.{SessionState, heard_cut, link_cut, link_made, settled_at, link_settled, fed_at, link_took, link_lost, happened, link_happened}

@@ -19,7 +19,7 @@ use Rattle.pitch_model.proofs.Honesty.{honest_top}
 use Rattle.pitch_model.proofs.Topmost.{reach_le_top}
 use Rattle.grp_session.specs.Budget.{Spent, next_second}
 use Rattle.spin_server.specs.Served.{is_served}
-use Rattle.spin_path.specs.Paths.{heard_all}
+use Rattle.heard_items.specs.Heard.{heard_all}
 use Rattle.spin_path.specs.PathLaws.{IsFeed}
 use Rattle.world_model.specs.State.{State}
 use Rattle.world_model.specs.Verbs.{next_state}

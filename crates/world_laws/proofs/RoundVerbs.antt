@@ -21,7 +21,7 @@ use Rattle.session_ends.specs.Sending.{new_items}
 use Rattle.grp_session.specs.Budget.{Spent, next_second}
 use Rattle.spin_server.specs.Served.{Served}
 use Rattle.client_links.specs.Linking.{Lookups, NoLookup, link_tells}
-use Rattle.spin_path.specs.Paths.{heard_all}
+use Rattle.heard_items.specs.Heard.{heard_all}
 use Rattle.client_end.specs.Came.{EndSetup, EndState, ask_sent, both_links_tick, asks_proxy, asks_spin_server, with_spin}
 use Rattle.client_end.specs.Links.{gap_link, spin_link, link_says}
 use Rattle.client_end.specs.Sessions.{SessionState, place_says}

@@ -28,7 +28,7 @@ use Rattle.venue_core.specs.Refusals.{IsAnswer, refusal}
 use Rattle.venue_core.specs.declared.error.VenueError.{VenueError}
 use Rattle.venue_core.specs.declared.error.VenueError.TheVariants as errors
 use Rattle.client_end.specs.Came.{Came, EndSetup, EndState, end_after, end_history, end_step}
-use Rattle.client_end.specs.Stands.{EndIs}
+use Rattle.client_end.specs.Parts.{EndIs}
 use Rattle.sending_end.specs.Waiting.{waits_for_proxy, waits_for_spin_server}
 use Rattle.sending_end.specs.Stands.{OfSending, SendingStands, Passes as ComesTo}
 use Rattle.sending_end.specs.declared.end.SendingEnd.{SendingEnd}
@@ -42,7 +42,7 @@ use Rattle.served_laws.proofs.Beside.{all_contained, beside_is_honest, beside_is
 use Rattle.world_model.specs.Ends.{client_setup, venue_setup}
 use Rattle.world_model.specs.Printed.{overflowed, printed}
 use Rattle.world_model.specs.Sound.{Sound}
-use Rattle.world_model.specs.Stands.{HasClient, WorldHas, WorldStands}
+use Rattle.world_model.specs.Stands.{HasClient, WorldStands}
 use Rattle.world_model.specs.State.{State, datagrams_on, passed_on, passed_to}
 use Rattle.world_model.specs.Verbs.{client_book, client_has, command_outcome, commanded, delivered, delivered_on, does, done, hears, hears_block, numbered, rest_delivered, sends, state_of, up_to, venue_has}
 use Rattle.world_model.specs.declared.limits.Limits.{Limits}
@@ -53,9 +53,9 @@ use Rattle.world_model.specs.declared.passed.Passed.{Passed}
 use Rattle.world_model.specs.declared.world.Acted.{Acted}
 use Rattle.world_model.specs.declared.world.World.{World}
 use Rattle.world_model.specs.layers.Hearing.{HearsBlocks, Listens, overflow_in}
-use Rattle.world_model.specs.layers.Steps.{Acts, Marks, Passes}
+use Rattle.world_model.specs.layers.Steps.{Acts, Marks, Passes, WorldHas}
 use Rattle.world_model.proofs.Marks.{marked, marks_hears, marks_none, marks_then}
-use Rattle.world_model.proofs.Sounding.{does_sound, line_out, still}
+use Rattle.world_model.proofs.Sounding.{does_sound, every_state_is_sound, line_out, still}
 
 abbrev pub calm_of : Outcome → Acted
 calm_of o = record { outcome = o; overflow = false }
@@ -69,10 +69,10 @@ module _ (w : World) (s : State) (has : WorldHas w s) where
   C = client_setup w.unit w.limits
 
   pub venue_stands : VenueStands V w.venue has.sound.venue_came
-  venue_stands = subst (VenueIs V w.venue) has.sound.venue_is has.venue
+  venue_stands = subst (VenueIs V w.venue) has.sound.venue_is has.is.venue
 
   pub client_stands : SendingStands C w.client has.sound.client_came
-  client_stands = record { unit_is = has.client.unit_is; end_is = subst (EndIs C w.client.end) has.sound.client_is has.client.end_is }
+  client_stands = record { unit_is = has.is.client.unit_is; end_is = subst (EndIs C w.client.end) has.sound.client_is has.is.client.end_is }
 
   -- what a contract says of all that came holds of the state
   pub seen_venue : (P : VenueSetup → VenueState → Type 0) → OfVenue w.venue (λ v before. P v (venue_after v before)) → P V s.venue
@@ -91,16 +91,16 @@ module _ (w : World) (s : State) (has : WorldHas w s) where
       record {
         unit_is = then.stands.unit_is;
         end_is = subst (λ (now : EndState). EndIs C client.end (end_step C came now)) (sym has.sound.client_is) then.stands.end_is;
-        grp_up = subst (λ (now : EndState). client.grp_said.items ≡ waits_for_proxy C came now s.grp_up) (sym has.sound.client_is) (then.proxy ∙ ap (waits_for_proxy C came at) has.client.grp_up);
-        spin_up = subst (λ (now : EndState). client.spin_said.items ≡ waits_for_spin_server C came now s.spin_up) (sym has.sound.client_is) (then.spin_server ∙ ap (waits_for_spin_server C came at) has.client.spin_up);
+        grp_up = subst (λ (now : EndState). client.grp_said.items ≡ waits_for_proxy C came now s.grp_up) (sym has.sound.client_is) (then.proxy ∙ ap (waits_for_proxy C came at) has.is.client.grp_up);
+        spin_up = subst (λ (now : EndState). client.spin_said.items ≡ waits_for_spin_server C came now s.spin_up) (sym has.sound.client_is) (then.spin_server ∙ ap (waits_for_spin_server C came at) has.is.client.spin_up);
       }
 
   pub client_still : (t : State) → t.client ≡ s.client → t.grp_up ≡ s.grp_up → t.spin_up ≡ s.spin_up → HasClient w.unit w.limits w.client t
   client_still t same grp spin = record {
-    unit_is = has.client.unit_is;
-    end_is = subst (EndIs C w.client.end) (sym same) has.client.end_is;
-    grp_up = has.client.grp_up ∙ sym grp;
-    spin_up = has.client.spin_up ∙ sym spin;
+    unit_is = has.is.client.unit_is;
+    end_is = subst (EndIs C w.client.end) (sym same) has.is.client.end_is;
+    grp_up = has.is.client.grp_up ∙ sym grp;
+    spin_up = has.is.client.spin_up ∙ sym spin;
   }
 
   -- ---- What was heard is the venue's
@@ -125,7 +125,7 @@ module _ (w : World) (s : State) (has : WorldHas w s) where
     -- the book of the client's end
     pub book_is : (book : Book) → OfSending w.client (λ c before. (M : List Raw) → AllByRecursion AreBytes M → Honest image M (end_history c before) → book ≡ book_after (take (reach c.hold (end_history c before)) M)) → book ≡ client_book w.limits s
     book_is book holds =
-        seen_client (λ c now. (M : List Raw) → AllByRecursion AreBytes M → Honest image M now.heard → book ≡ book_after (take (reach c.hold now.heard) M)) holds s.venue.messages has.venue.core.market.venue.bytes whole.honest
+        seen_client (λ c now. (M : List Raw) → AllByRecursion AreBytes M → Honest image M now.heard → book ≡ book_after (take (reach c.hold now.heard) M)) holds s.venue.messages has.is.venue.market.venue.bytes whole.honest
 
   -- ---- A part of a verb
   module _ (venue : VenueEnd) (new : VenueCame) (stands : VenueIs V venue (venue_step V new s.venue)) where
@@ -135,13 +135,15 @@ module _ (w : World) (s : State) (has : WorldHas w s) where
       limits_are = refl;
       quiet = marks_none w.limits.hold s.client.heard;
       has = record {
-        begun = has.begun;
-        venue = stands;
-        client = client_still (venue_has w.unit w.limits new s) refl refl refl;
-        sent = has.sent;
-        replayed = has.replayed;
-        passed = has.passed;
-        noted = has.noted;
+        is = record {
+          begun = has.is.begun;
+          venue = stands;
+          client = client_still (venue_has w.unit w.limits new s) refl refl refl;
+          sent = has.is.sent;
+          replayed = has.is.replayed;
+          passed = has.is.passed;
+          noted = has.is.noted;
+        };
         sound = sound;
       };
     }
@@ -154,13 +156,15 @@ module _ (w : World) (s : State) (has : WorldHas w s) where
       limits_are = refl;
       quiet = quiet;
       has = record {
-        begun = has.begun;
-        venue = stands;
-        client = client_then client came new comes;
-        sent = has.sent;
-        replayed = has.replayed;
-        passed = has.passed;
-        noted = has.noted;
+        is = record {
+          begun = has.is.begun;
+          venue = stands;
+          client = client_then client came new comes;
+          sent = has.is.sent;
+          replayed = has.is.replayed;
+          passed = has.is.passed;
+          noted = has.is.noted;
+        };
         sound = sound;
       };
     }
@@ -174,13 +178,15 @@ module _ (w : World) (s : State) (has : WorldHas w s) where
       outcome_is = ap (λ (a : Acted). a.outcome) calm ∙ ap outcome.Sent many;
       overflow_is = ap (λ (a : Acted). a.overflow) calm ∙ marked w.limits.hold s.client.heard s.client.heard false (marks_none w.limits.hold s.client.heard);
       has = record {
-        begun = has.begun;
-        venue = stands;
-        client = client_still (sends w.unit w.limits new s).state refl refl refl;
-        sent = are ∙ ap (λ (ds : List (List ℕ)). ds ++ on_lines V new s.venue) has.sent;
-        replayed = has.replayed;
-        passed = has.passed;
-        noted = has.noted;
+        is = record {
+          begun = has.is.begun;
+          venue = stands;
+          client = client_still (sends w.unit w.limits new s).state refl refl refl;
+          sent = are ∙ ap (λ (ds : List (List ℕ)). ds ++ on_lines V new s.venue) has.is.sent;
+          replayed = has.is.replayed;
+          passed = has.is.passed;
+          noted = has.is.noted;
+        };
         sound = sound;
       };
     }
@@ -276,7 +282,7 @@ module _ (w : World) (s : State) (has : WorldHas w s) (client : SendingEnd) (arb
   acts_heard overflow number n blocks heard sound behind is =
       let H : ℕ = w.limits.hold in
       let t : State = hears w.unit w.limits line blocks s in
-      let listens : Listens w.unit w.limits w.client w.arbiter s = record { client = has.client; noted = has.noted; came = has.sound.client_came; came_is = has.sound.client_is } in
+      let listens : Listens w.unit w.limits w.client w.arbiter s = record { client = has.is.client; noted = has.is.noted; came = has.sound.client_came; came_is = has.sound.client_is } in
       let then = heard.listens w.limits s listens in
       let same = hears_is w.unit w.limits line blocks s in
       record {
@@ -285,13 +291,15 @@ module _ (w : World) (s : State) (has : WorldHas w s) (client : SendingEnd) (arb
         outcome_is = ap (λ (a : Acted). a.outcome) is;
         overflow_is = ap (λ (a : Acted). a.overflow) is ∙ heard.overflow_is w.limits s listens ∙ marked H s.client.heard t.client.heard (overflow_in H blocks s.client.heard) (marks_hears w.unit w.limits line blocks s);
         has = record {
-          begun = has.begun ∙ ap (λ (u : State). u.begun) (sym same);
-          venue = subst (λ (u : State). VenueIs (venue_setup w.unit w.limits) w.venue u.venue) (sym same) has.venue;
-          client = record { unit_is = then.client.unit_is; end_is = then.client.end_is; grp_up = then.client.grp_up; spin_up = then.client.spin_up };
-          sent = has.sent ∙ ap (λ (u : State). u.sent) (sym same);
-          replayed = has.replayed ∙ ap (λ (u : State). u.replayed) (sym same);
-          passed = behind ∙ ap (passed_to line number) (has.passed ∙ ap (λ (u : State). u.passed) (sym same));
-          noted = then.noted;
+          is = record {
+            begun = has.is.begun ∙ ap (λ (u : State). u.begun) (sym same);
+            venue = subst (λ (u : State). VenueIs (venue_setup w.unit w.limits) w.venue u.venue) (sym same) has.is.venue;
+            client = record { unit_is = then.client.unit_is; end_is = then.client.end_is; grp_up = then.client.grp_up; spin_up = then.client.spin_up };
+            sent = has.is.sent ∙ ap (λ (u : State). u.sent) (sym same);
+            replayed = has.is.replayed ∙ ap (λ (u : State). u.replayed) (sym same);
+            passed = behind ∙ ap (passed_to line number) (has.is.passed ∙ ap (λ (u : State). u.passed) (sym same));
+            noted = then.noted;
+          };
           sound = sound;
         };
       }
@@ -324,7 +332,7 @@ module _ (w : World) (s : State) (has : WorldHas w s) (client : SendingEnd) (arb
       → Acts w new acted s (rest_delivered w.unit w.limits line s)
   acts_rest overflow all n lists rest are many from is heard behind shown =
       let datagrams : List (List ℕ) = datagrams_on s line in
-      let passed_by : n ≡ passed_on s.passed line = from ∙ ap (λ (p : Passed). passed_on p line) has.passed in
+      let passed_by : n ≡ passed_on s.passed line = from ∙ ap (λ (p : Passed). passed_on p line) has.is.passed in
       let left : List (List ℕ) = drop (passed_on s.passed line) datagrams in
       let rest_is : bytes_in rest ≡ left =
       ap (λ (l : List (Roomy ℕ)). bytes_in l) is ∙ sym (drop-map (λ (l : Roomy ℕ). l.items) n lists) ∙ ap (drop n) are ∙ ap (λ (k : ℕ). drop k datagrams) passed_by in
@@ -338,13 +346,22 @@ module _ (w : World) (s : State) (has : WorldHas w s) (client : SendingEnd) (arb
       heard_of k o = record { outcome = outcome.Heard k; overflow = o }
 
 -- ---- A step
+-- a world that stands for some verbs has what every state of verbs has
+pub has_all : (w : World) (unit : ℕ) (limits : Limits) (done : List Verb) → WorldStands w unit limits done → WorldHas w (state_of unit limits done)
+has_all w unit limits done stands =
+    let s : State = state_of unit limits done in
+    record {
+      is = stands.is;
+      sound = subst (λ (l : Limits). Sound w.unit l s) (sym stands.limits_are) (subst (λ (u : ℕ). Sound u limits s) (sym stands.unit_is) (every_state_is_sound unit limits done));
+    }
+
 module _ (old new : World) (acted : Acted) (verb : Verb) (unit : ℕ) (limits : Limits) (before : List Verb) (act : (s : State) → WorldHas old s → Acts old new acted s (does old.unit old.limits verb s)) (stands : WorldStands old unit limits before) where
   abbrev now : State
   now = state_of unit limits before
 
   did : Acts old new acted now (does unit limits verb now)
   did =
-      subst (λ (l : Limits). Acts old new acted now (does unit l verb now)) stands.limits_are (subst (λ (u : ℕ). Acts old new acted now (does u old.limits verb now)) stands.unit_is (act now stands.has))
+      subst (λ (l : Limits). Acts old new acted now (does unit l verb now)) stands.limits_are (subst (λ (u : ℕ). Acts old new acted now (does u old.limits verb now)) stands.unit_is (act now (has_all old unit limits before stands)))
 
   pub stepped : WorldStands (record new { begun = true }) unit limits (verb ∷ before)
   stepped =
@@ -352,15 +369,14 @@ module _ (old new : World) (acted : Acted) (verb : Verb) (unit : ℕ) (limits : 
       record {
         unit_is = did.unit_is ∙ stands.unit_is;
         limits_are = did.limits_are ∙ stands.limits_are;
-        has = record {
+        is = record {
           begun = refl;
-          venue = did.has.venue;
+          venue = did.has.is.venue;
           client = client_still new t did.has (state_of unit limits (verb ∷ before)) refl refl refl;
-          sent = did.has.sent;
-          replayed = did.has.replayed;
-          passed = did.has.passed;
-          noted = did.has.noted;
-          sound = still new.unit new.limits t (state_of unit limits (verb ∷ before)) refl refl refl refl did.has.sound;
+          sent = did.has.is.sent;
+          replayed = did.has.is.replayed;
+          passed = did.has.is.passed;
+          noted = did.has.is.noted;
         };
       }
 

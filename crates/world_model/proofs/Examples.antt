@@ -32,7 +32,7 @@ use Rattle.session_ends.specs.Closing.{login_status}
 use Rattle.session_ends.specs.declared.role.Role.TheVariants as roles
 use Rattle.grp_session.specs.Asking.{status_here}
 use Rattle.client_links.specs.Linking.{login_bytes}
-use Rattle.world_model.specs.Ends.{the_account}
+use Rattle.world_model.specs.Ends.{default_limits, the_account}
 use Rattle.pitch_model.specs.Reach.{reach_of, held_count}
 use Rattle.pitch_model.specs.declared.status.Status.{Status}
 use Rattle.pitch_model.specs.declared.status.Status.TheVariants.{Silent, Current, Behind}
@@ -45,6 +45,10 @@ use Rattle.world_model.specs.declared.limits.Limits.{Limits}
 use Rattle.world_model.specs.declared.outcome.Outcome.{Outcome}
 use Rattle.world_model.specs.declared.outcome.Outcome.TheVariants as outcome
 use Rattle.world_model.specs.declared.outcome.Printed.{Printed}
+
+-- the limits where none are said
+limits_are : default_limits ≡ record { hold = 4096; kept = 65536; second = 10; minute = 100; day = 10000 }
+limits_are = refl
 
 abbrev limits : Limits
 limits = record { hold = 2; kept = 65536; second = 10; minute = 100; day = 10000 }

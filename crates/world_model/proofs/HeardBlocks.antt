@@ -16,7 +16,7 @@ use Rattle.heard_items.specs.Datagrams.{block_messages}
 use Rattle.heard_items.specs.layers.DatagramCounts.{overflows_in}
 use Rattle.heard_items.specs.declared.change.Change.{Change}
 use Rattle.client_end.specs.Came.{EndState, Heard, end_history, end_step}
-use Rattle.client_end.specs.Stands.{EndIs}
+use Rattle.client_end.specs.Parts.{EndIs}
 use Rattle.sending_end.specs.Stands.{OfSending, SendingStands, WaitsStill}
 use Rattle.sending_end.specs.declared.end.SendingEnd.{SendingEnd}
 use Rattle.line_arbiter.specs.Noted.{HasNoted, Note}

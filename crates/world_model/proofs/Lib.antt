@@ -3,7 +3,7 @@ mod HeardBlocks
 mod Booking
 mod Marks
 mod Acting
-mod Sessions
+pub mod Sessions
 mod Pumping
 mod Examples
 mod PrintedLines

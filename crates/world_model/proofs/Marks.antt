@@ -11,13 +11,13 @@ use Rattle.pitch_model.specs.declared.ask.Ask.TheVariants as asks
 use Rattle.pitch_text.specs.declared.verb.Session.{Session}
 use Rattle.pitch_text.specs.declared.verb.Session.TheVariants.{Grp, Spin}
 use Rattle.unit_packets.specs.Blocks.{Block}
-use Rattle.heard_items.specs.Heard.{block_overflows, heard, heard_block, heard_messages, heard_sequenced, overflowed_messages}
+use Rattle.heard_items.specs.Heard.{block_overflows, heard, heard_block, heard_messages}
+use Rattle.heard_items.specs.Heard.{heard_sequenced, overflowed_messages, heard_all}
 use Rattle.heard_items.specs.declared.item.Item.{Item}
 use Rattle.heard_items.specs.declared.item.Item.TheVariants as item
 use Rattle.session_ends.specs.Closing.{Setup, closed_of}
 use Rattle.session_ends.specs.Events.{Event}
 use Rattle.client_links.specs.Linking.{Lookups, link_tells}
-use Rattle.spin_path.specs.Paths.{heard_all}
 use Rattle.client_end.specs.Came.{EndSetup, EndState, Second, ask_sent, both_links_tick, end_step, grp_link_ticks}
 use Rattle.client_end.specs.Links.{gap_link, spin_link}
 use Rattle.client_end.specs.Sessions.{SessionState, fed_at, happened, heard_cut, settled_at}

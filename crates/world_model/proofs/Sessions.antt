@@ -7,7 +7,7 @@ use Rattle.pitch_text.specs.declared.verb.Session.TheVariants.{Grp, Spin}
 use Rattle.pitch_messages.specs.Room.{Roomy}
 use Rattle.unit_packets.specs.Packing.{bytes_in}
 use Rattle.client_end.specs.Came.{Second}
-use Rattle.client_end.specs.Stands.{EndIs}
+use Rattle.client_end.specs.Parts.{EndIs}
 use Rattle.sending_end.specs.Waiting.{ended, made, took}
 use Rattle.sending_end.specs.Stands.{OfSending, Passes as ComesTo, SendingStands, waiting}
 use Rattle.sending_end.specs.declared.end.SendingEnd.{SendingEnd}
@@ -21,7 +21,7 @@ use Rattle.venue_end.specs.declared.setup.VenueSetup.{VenueSetup}
 use Rattle.venue_end.specs.declared.venue.VenueEnd.{VenueEnd}
 use Rattle.world_model.specs.Ends.{at_client, client_setup, server_cut, server_made, server_put, server_took, server_waits, stands, the_session, venue_setup}
 use Rattle.world_model.specs.Sound.{Sound}
-use Rattle.world_model.specs.Stands.{HasClient, WorldHas}
+use Rattle.world_model.specs.Stands.{HasClient}
 use Rattle.world_model.specs.State.{State, up_taken, up_waits}
 use Rattle.world_model.specs.Verbs.{carried, client_has, cut, done, ends, link_fed, opened, pumped, pumps, seconds, server_fed, settled, venue_has}
 use Rattle.world_model.specs.declared.limits.Limits.{Limits}
@@ -29,7 +29,7 @@ use Rattle.world_model.specs.declared.outcome.Outcome.TheVariants as outcome
 use Rattle.world_model.specs.declared.world.Acted.{Acted}
 use Rattle.world_model.specs.declared.world.World.{World}
 use Rattle.world_model.specs.layers.Feeding.{Feeds, fed_then}
-use Rattle.world_model.specs.layers.Steps.{Acts, Passes}
+use Rattle.world_model.specs.layers.Steps.{Acts, Passes, WorldHas}
 use Rattle.world_model.proofs.Acting.{acts_passed, calm_of, client_still, passes_both, passes_none, passes_then, passes_venue, client_stands, seen_venue, venue_stands, venue_then}
 use Rattle.world_model.proofs.Marks.{marks_ended, marks_fed, marks_made, marks_none, marks_second}
 use Rattle.world_model.proofs.Sounding.{cut_sound, ends_sound, fed_sound, opened_sound, put_sound, seconds_sound, taken_sound}
@@ -108,8 +108,8 @@ module _ (w : World) (acted : Acted) (s : State) (after : ℕ → State) (bytes 
 -- ---- To a server
 -- what waits at the client's end
 pub waits_there : (session : Session) (w : World) (s : State) → WorldHas w s → waiting (at_client session) w.client ≡ up_waits session s
-waits_there Grp w s has = has.client.grp_up
-waits_there Spin w s has = has.client.spin_up
+waits_there Grp w s has = has.is.client.grp_up
+waits_there Spin w s has = has.is.client.spin_up
 
 -- some of it is sent
 sent_client : (session : Session) (w : World) (client : SendingEnd) (s : State) (n : ℕ) → (has : WorldHas w s) → waiting (at_client session) client ≡ drop n (waiting (at_client session) w.client)
@@ -118,14 +118,14 @@ sent_client : (session : Session) (w : World) (client : SendingEnd) (s : State) 
 sent_client Grp w client s n has left others is = record {
   unit_is = is.unit_is;
   end_is = subst (EndIs (client_setup w.unit w.limits) client.end) (sym has.sound.client_is) is.end_is;
-  grp_up = left ∙ ap (drop n) has.client.grp_up;
-  spin_up = others SpinServer (λ e. cc) ∙ has.client.spin_up;
+  grp_up = left ∙ ap (drop n) has.is.client.grp_up;
+  spin_up = others SpinServer (λ e. cc) ∙ has.is.client.spin_up;
 }
 sent_client Spin w client s n has left others is = record {
   unit_is = is.unit_is;
   end_is = subst (EndIs (client_setup w.unit w.limits) client.end) (sym has.sound.client_is) is.end_is;
-  grp_up = others Proxy (λ e. cc) ∙ has.client.grp_up;
-  spin_up = left ∙ ap (drop n) has.client.spin_up;
+  grp_up = others Proxy (λ e. cc) ∙ has.is.client.grp_up;
+  spin_up = left ∙ ap (drop n) has.is.client.spin_up;
 }
 
 taken_is : (session : Session) (n : ℕ) (s : State) → up_taken session n s ≡ record s { grp_up = (up_taken session n s).grp_up; spin_up = (up_taken session n s).spin_up }
@@ -142,13 +142,15 @@ passes_taken session w client s n has left others holds =
       limits_are = refl;
       quiet = marks_none w.limits.hold s.client.heard;
       has = record {
-        begun = has.begun;
-        venue = has.venue;
-        client = subst (HasClient w.unit w.limits client) same (sent_client session w client s n has left others (holds (client_setup w.unit w.limits) has.sound.client_came (client_stands w s has)));
-        sent = has.sent;
-        replayed = has.replayed;
-        passed = has.passed;
-        noted = has.noted;
+        is = record {
+          begun = has.is.begun;
+          venue = has.is.venue;
+          client = subst (HasClient w.unit w.limits client) same (sent_client session w client s n has left others (holds (client_setup w.unit w.limits) has.sound.client_came (client_stands w s has)));
+          sent = has.is.sent;
+          replayed = has.is.replayed;
+          passed = has.is.passed;
+          noted = has.is.noted;
+        };
         sound = subst (Sound w.unit w.limits) same (taken_sound w.unit w.limits session n s has.sound);
       };
     })
@@ -158,11 +160,11 @@ module _ (unit : ℕ) (limits : Limits) where
   abbrev V : VenueSetup
   V = venue_setup unit limits
 
-  pumped_venue : (n : ℕ) (t : State) (before : List VenueCame) → t.venue ≡ venue_after V before → (pumped unit limits n t).venue ≡ venue_after V (replicate n (SpinPumped the_session) ++ before)
+  pub pumped_venue : (n : ℕ) (t : State) (before : List VenueCame) → t.venue ≡ venue_after V before → (pumped unit limits n t).venue ≡ venue_after V (replicate n (SpinPumped the_session) ++ before)
   pumped_venue zero t before is = is
   pumped_venue (suc n) t before is = ap (venue_step V (SpinPumped the_session)) (pumped_venue n t before is)
 
-  pumped_is : (n : ℕ) (t : State) → pumped unit limits n t ≡ record t { venue = (pumped unit limits n t).venue }
+  pub pumped_is : (n : ℕ) (t : State) → pumped unit limits n t ≡ record t { venue = (pumped unit limits n t).venue }
   pumped_is zero t = refl
   pumped_is (suc n) t = ap (venue_has unit limits (SpinPumped the_session)) (pumped_is n t)
 
@@ -195,13 +197,15 @@ passes_fed session w venue replayed piece s has feeds =
       limits_are = refl;
       quiet = marks_none w.limits.hold s.client.heard;
       has = record {
-        begun = has.begun;
-        venue = subst (VenueIs v venue) (sym (fed_venue w.unit w.limits session piece s has.sound.venue_came has.sound.venue_is)) (feeds.stands v has.sound.venue_came (venue_stands w s has));
-        client = client_still w s has (record s { venue = t.venue; replayed = s.replayed ++ lines }) refl refl refl;
-        sent = has.sent;
-        replayed = seen_venue w s has (λ v now. bytes_in replayed.items ≡ bytes_in w.replayed.items ++ on_gap_line v (server_took session piece) now) feeds.lined ∙ ap (λ (ds : List (List ℕ)). ds ++ lines) has.replayed;
-        passed = has.passed;
-        noted = has.noted;
+        is = record {
+          begun = has.is.begun;
+          venue = subst (VenueIs v venue) (sym (fed_venue w.unit w.limits session piece s has.sound.venue_came has.sound.venue_is)) (feeds.stands v has.sound.venue_came (venue_stands w s has));
+          client = client_still w s has (record s { venue = t.venue; replayed = s.replayed ++ lines }) refl refl refl;
+          sent = has.is.sent;
+          replayed = seen_venue w s has (λ v now. bytes_in replayed.items ≡ bytes_in w.replayed.items ++ on_gap_line v (server_took session piece) now) feeds.lined ∙ ap (λ (ds : List (List ℕ)). ds ++ lines) has.is.replayed;
+          passed = has.is.passed;
+          noted = has.is.noted;
+        };
         sound = subst (Sound w.unit w.limits) same (fed_sound w.unit w.limits session piece s has.sound);
       };
     })

@@ -1,5 +1,7 @@
 -- The two ends of a unit's world: how they are made, and what comes to each by a session.
 use Rattle.std.specs.Prelude.{ℕ, Bool, List, codes, is_some}
+use Rattle.pitch_text.specs.Defaults.{default_hold, default_kept, default_second, default_minute}
+use Rattle.pitch_text.specs.Defaults.{default_day}
 use Rattle.pitch_text.specs.declared.verb.Session.{Session}
 use Rattle.pitch_text.specs.declared.verb.Session.TheVariants.{Grp, Spin}
 use Rattle.session_ends.specs.declared.account.Account.{Account}
@@ -14,6 +16,16 @@ use Rattle.venue_end.specs.declared.setup.VenueSetup.{VenueSetup}
 use Rattle.world_model.specs.declared.limits.Limits.{Limits}
 
 -- ---- How they are made
+-- the limits of a unit where none are said
+abbrev pub default_limits : Limits
+default_limits = record {
+  hold = default_hold;
+  kept = default_kept;
+  second = default_second;
+  minute = default_minute;
+  day = default_day;
+}
+
 -- the one account that both servers know, with which both links log in
 abbrev pub the_account : Account
 the_account = record { sub = codes "0001"; user = codes "FEED"; password = codes "PITCH     " }

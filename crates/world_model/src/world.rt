@@ -4,11 +4,11 @@ ghost use Rattle.std.specs.Prelude.{◌≡◌, ◌≤◌, ℕ, List, [], ◌∷�
 ghost use Rattle.std.specs.Prelude.{◌++◌, OnOk};
 ghost use Rattle.unit_packets.specs.Packing.{bytes_in};
 ghost use Rattle.venue_core.specs.declared.error.VenueError.TheVariants as errors;
-ghost use Rattle.world_model.specs.Ends.{at_client, venue_setup};
 ghost use Rattle.world_model.specs.declared.outcome.Outcome.TheVariants as outcome;
 ghost use Rattle.world_model.specs.Verbs.{tick_outcome};
 
 use crate::datagrams::{append_copies, datagrams_after, datagrams_on};
+use crate::ends::{at_client, client_end, venue_setup};
 use crate::hearing::{hear_all, hear_datagram};
 use crate::limits::Limits;
 use crate::outcome::{Outcome, Printed};
@@ -18,24 +18,16 @@ use crate::showing::{append_book, append_counts};
 use crate::venue;
 use client_core::UnitClient;
 use line_arbiter::Arbiter;
-use pitch_fields::{HoldLimit, OutOfMemory, Side, Symbol};
+use pitch_fields::{OutOfMemory, Side, Symbol};
 use pitch_io::Line;
 use pitch_messages::ByteList;
 use pitch_model::Ask;
 use pitch_text::{Command, Session, Verb};
 use sending_end::SendingEnd;
-use session_ends::Account;
 use std::alloc::Global;
 use unit_packets::DatagramList;
 use venue_core::VenueError;
-use venue_end::{VenueEnd, VenueSetup};
-
-// The one account that both servers know, with which both links log in.
-const THE_ACCOUNT: Account = Account {
-    sub: *b"0001",
-    user: *b"FEED",
-    password: *b"PITCH     ",
-};
+use venue_end::VenueEnd;
 
 /// One unit's world: a venue with its Gap Request Proxy and Spin Server, every datagram that they
 /// sent, and one client, whose connections carry bytes only as verbs say.
@@ -74,13 +66,14 @@ impl World {
     ghost use Rattle.venue_end.specs.Came.{Flushed, Beaten};
     ghost use Rattle.world_model.specs.Ends.{stands};
     ghost use Rattle.world_model.specs.Printed.{printed, shown_state};
-    ghost use Rattle.world_model.specs.Stands.{WorldHas, WorldStands};
+    ghost use Rattle.world_model.specs.Stands.{WorldStands};
     ghost use Rattle.world_model.specs.State.{State, datagrams_on};
     ghost use Rattle.world_model.specs.Verbs.{state_of, does, set_up, commanded, sends, advertised};
     ghost use Rattle.world_model.specs.Verbs.{delivered, rest_delivered, opened, connected, cut};
     ghost use Rattle.world_model.specs.Verbs.{settled, up, down, ticked, quoted};
     ghost use Rattle.world_model.specs.declared.limits.Limits.{Limits as LimitsSaid};
-    ghost use Rattle.world_model.specs.layers.Steps.{AreLimits, Acts, Passes, has_failed};
+    ghost use Rattle.world_model.specs.layers.Steps.{AreLimits, Acts, Passes, WorldHas};
+    ghost use Rattle.world_model.specs.layers.Steps.{has_failed};
 
     /// The world of a unit with which nothing was done. Its limits are ones that an `open` line can
     /// set.
@@ -90,11 +83,8 @@ impl World {
         ensures stands { IfOk result (λ world. WorldStands world unit limits []) }
         ensures fresh { IfOk result (λ world. has_failed world ≡ false) }
     {
-        let Some(hold) = HoldLimit::of(limits.hold) else {
-            unreachable!();
-        };
         let venue = VenueEnd::make(alloc, &venue_setup(unit, limits))?;
-        let client = SendingEnd::make(alloc, unit, &THE_ACCOUNT, hold)?;
+        let client = client_end(alloc, unit, limits)?;
         Ok(World {
             alloc,
             unit,
@@ -454,30 +444,6 @@ impl World {
             bid: book.best(symbol, Side::Buy),
             offer: book.best(symbol, Side::Sell),
         }
-    }
-}
-
-// How the venue's end of a unit is made.
-fn venue_setup(unit: u8, limits: Limits) -> VenueSetup
-    ensures { result ≡ venue_setup unit limits }
-{
-    VenueSetup {
-        unit,
-        account: THE_ACCOUNT,
-        kept: limits.kept,
-        second: limits.second,
-        minute: limits.minute,
-        day: limits.day,
-    }
-}
-
-// A session at the client's end.
-fn at_client(session: Session) -> sending_end::Session
-    ensures { result ≡ at_client session }
-{
-    match session {
-        Session::Grp => sending_end::Session::Proxy,
-        Session::Spin => sending_end::Session::SpinServer,
     }
 }
 

@@ -2,7 +2,7 @@
 use Rattle.std.specs.Prelude.{ℕ, List}
 use Rattle.std.specs.List.{AllByRecursion}
 use Rattle.pitch_fields.specs.Fields.{AreBytes}
-use Rattle.spin_path.specs.Paths.{heard_all}
+use Rattle.heard_items.specs.Heard.{heard_all}
 use Rattle.pitch_model.specs.History.{Entry, Raw}
 use Rattle.pitch_model.specs.Honest.{Honest}
 use Rattle.pitch_model.specs.Image.{image}

@@ -6,7 +6,7 @@ use Rattle.pitch_messages.specs.Raw.{IsRaw}
 use Rattle.gap_store.specs.Look.{View, store_of}
 use Rattle.gap_store.specs.layers.Looking.{IsLater}
 use Rattle.session_ends.specs.Answering.{followed}
-use Rattle.session_ends.specs.Hearings.{Rises}
+use Rattle.session_ends.specs.layers.Hearings.{Rises}
 use Rattle.session_ends.specs.Closing.{Setup}
 use Rattle.session_ends.specs.Ending.{Ending}
 use Rattle.session_ends.specs.Events.{Event, Fed}

@@ -1,7 +1,7 @@
 -- However the bytes are cut into pieces.
 use Rattle.std.specs.Prelude.{◌≡◌, ℕ, List, ◌∷◌, ◌++◌, length, replicate, is_some, if◌then◌else◌}
 use Rattle.session_ends.specs.Answering.{Answer, Answerer, no_answer, followed, answers}
-use Rattle.session_ends.specs.Hearings.{Rises}
+use Rattle.session_ends.specs.layers.Hearings.{Rises}
 use Rattle.session_ends.specs.Closing.{Setup, closed_of, logged_in}
 use Rattle.session_ends.specs.Events.{Event, Fed}
 use Rattle.session_ends.specs.Sending.{new_items}

@@ -1,12 +1,12 @@
 -- What feeding a Spin Server's session does.
 use Rattle.std.specs.Prelude.{◌≡◌, ℕ, List, ◌∷◌, ◌++◌, length, Option}
 use Rattle.session_ends.specs.Answering.{followed}
-use Rattle.session_ends.specs.Hearings.{Rises}
+use Rattle.session_ends.specs.layers.Hearings.{Rises}
 use Rattle.session_ends.specs.Closing.{Setup}
 use Rattle.session_ends.specs.Events.{Event, Fed}
 use Rattle.session_ends.specs.Sending.{new_items}
 use Rattle.spin_server.specs.Served.{Served}
-use Rattle.spin_server.specs.Looking.{ServedLater}
+use Rattle.spin_server.specs.layers.Looking.{ServedLater}
 use Rattle.spin_server.specs.Serving.{Spin, spin_fed_answer, spin_sends, Serving, SpinStands}
 
 -- what feeding does: it stands for one event more, and what it answers was appended; the messages

@@ -2,7 +2,7 @@
 use Rattle.std.specs.Prelude.{◌≡◌, ℕ, zero, suc, ◌+◌, List, [], ◌∷◌, ◌++◌, reverse, Result, Ok, Err}
 use Rattle.pitch_messages.specs.Room.{Roomy}
 use Rattle.pitch_text.specs.declared.verb.Verb.{Verb}
-use Rattle.schedule_replay.specs.Replay.{default_limits}
+use Rattle.world_model.specs.Ends.{default_limits}
 use Rattle.storm_replay.specs.Storm.{start_verbs, step_verbs, end_verbs}
 use Rattle.world_model.specs.Stands.{WorldStands}
 use Rattle.world_model.specs.declared.world.World.{World}

@@ -9,7 +9,8 @@ use Rattle.world_model.specs.Verbs.{Done}
 use Rattle.world_model.specs.declared.limits.Limits.{Limits}
 use Rattle.world_model.specs.declared.world.Acted.{Acted}
 use Rattle.world_model.specs.declared.world.World.{World}
-use Rattle.world_model.specs.Stands.{WorldHas}
+use Rattle.world_model.specs.Sound.{Sound}
+use Rattle.world_model.specs.Stands.{WorldIs}
 
 -- limits that an `open` line can set
 abbrev pub AreLimits : Limits → Type 0
@@ -20,6 +21,11 @@ abbrev pub has_failed : World → Bool
 has_failed w = w.failed
 
 -- ---- Steps
+-- the parts of a world are those of a state, of which holds what holds of every state of verbs
+pub record WorldHas (w : World) (s : State) : Type 0 where
+  pub is : WorldIs w s
+  pub sound : Sound w.unit w.limits s
+
 -- a verb was done from a state: its outcome, whether the hold overflowed, and the parts it left
 pub record Acts (old new : World) (acted : Acted) (s : State) (d : Done) : Type 0 where
   pub unit_is : new.unit ≡ old.unit

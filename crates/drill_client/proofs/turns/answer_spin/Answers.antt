@@ -3,7 +3,7 @@ use Rattle.spin_server.proofs.Shelving.{shelf_seen}
 use Rattle.pitch_model.specs.Advertising.{Operation}
 use Rattle.pitch_model.specs.History.{Raw}
 use Rattle.spin_server.specs.Served.{Served}
-use Rattle.spin_server.specs.ShelfViews.{seen_of}
+use Rattle.spin_server.specs.layers.ShelfViews.{seen_of}
 use Rattle.unit_market.specs.Standing.{MarketState}
 use Rattle.unit_market.proofs.Having.{seen_is}
 use Rattle.drill_client.specs.layers.Answered.{heard_of_spin}

@@ -4,7 +4,7 @@ use Rattle.pitch_model.proofs.Advertising.{newest_is_advertised}
 use Rattle.pitch_model.specs.Advertising.{Operation, advertised_by, last_ten, newest_of}
 use Rattle.pitch_model.specs.History.{Raw}
 use Rattle.spin_server.specs.Served.{is_served}
-use Rattle.spin_server.specs.ShelfViews.{seen_of}
+use Rattle.spin_server.specs.layers.ShelfViews.{seen_of}
 use Rattle.unit_market.specs.Standing.{MarketState}
 use Rattle.drill_client.specs.layers.Following.{IsImageOf}
 use Rattle.drill_client.proofs.Answering.{image_is, served_is_there, newest_there, seen_answer, seen_within}

@@ -4,14 +4,14 @@ use Rattle.pitch_io.specs.Nets.{Put}
 use Rattle.pitch_io.specs.declared.sink.Put.TheVariants as puts
 use Rattle.net_edge.specs.Acting.{end_puts}
 use Rattle.net_edge.specs.layers.Playing.{Plays}
-use Rattle.net_edge.proofs.Runs.{play_call, put_none, put_next}
+use Rattle.net_edge.proofs.Runs.{play_call, put_may, put_none, put_next}
 use Rattle.net_edge.proofs.Breaking.{breaks_by}
 use Rattle.net_edge.proofs.putting.put_whole.Goals as goal
 
 pub puts-init : goal.puts-init
 puts-init g c = record {
   within = omega arith;
-  plays = λ s base now plays. subst (Plays s base (g.N.Net.calls c.args.net.now)) (sym (put_none c.args.at now)) plays;
+  plays = λ s base now waits plays. subst (Plays s base (g.N.Net.calls c.args.net.now)) (sym (put_none c.args.at now)) plays;
   later = omega arith;
   still = refl;
 }
@@ -24,22 +24,20 @@ puts-preserved g c =
     let whole : piece ≡ drop c.puts.done bytes = take_rest bytes c.puts.done in
     record {
       within = omega (arith, c.in-Wrote.ensures.count.1, ap (λ (x : List ℕ). length x) whole, length-drop c.puts.done bytes, c.puts.invariant.within);
-      plays = λ s base now plays.
+      plays = λ s base now waits plays.
           subst (Plays s base (g.N.Net.calls c.put.new.self)) (put_next c.args.at bytes piece c.puts.done count now whole)
-          (play_call s base _ _ (end_puts c.args.at (take c.puts.done bytes) now) (Put c.args.at piece (puts.Wrote count)) c.in-Wrote.ensures.calls (λ f. f) tt (c.puts.invariant.plays s base now plays));
+          (play_call s base _ _ (end_puts c.args.at (take c.puts.done bytes) now) (Put c.args.at piece (puts.Wrote count)) c.in-Wrote.ensures.calls (λ f. f) (put_may c.args.at bytes piece c.puts.done now waits c.puts.invariant.within whole) (c.puts.invariant.plays s base now waits plays));
       later = omega (arith, c.puts.invariant.later, c.put.ensures.cause.later);
       still = c.in-Wrote.ensures.still (λ f. f) ∙ c.puts.invariant.still;
     }
 
 pub returns-clause-put : goal.returns-clause-put
-returns-clause-put g c = λ s base now plays.
-    subst (λ (bytes : List ℕ). Plays s base (g.N.Net.calls c.puts.net) (end_puts c.args.at bytes now)) (take_all c.puts.done c.args.bytes.now (omega arith)) (c.puts.invariant.plays s base now plays)
-
-pub returns-clause-runs : goal.returns-clause-runs
-returns-clause-runs g c = λ s base runs. (end_puts c.args.at (take c.puts.done c.args.bytes.now) runs.0, c.puts.invariant.plays s base runs.0 runs.1)
+returns-clause-put g c = λ s base now waits plays.
+    subst (λ (bytes : List ℕ). Plays s base (g.N.Net.calls c.puts.net) (end_puts c.args.at bytes now)) (take_all c.puts.done c.args.bytes.now (omega arith)) (c.puts.invariant.plays s base now waits plays)
 
 pub returns-in-Failed-clause-broke : goal.returns-in-Failed-clause-broke
 returns-in-Failed-clause-broke g c =
     let bytes : List ℕ = c.args.bytes.now in
     let piece : List ℕ = take (length bytes - c.puts.done) (drop c.puts.done bytes) in
-    λ s base runs. breaks_by s base _ _ (end_puts c.args.at (take c.puts.done bytes) runs.0) (Put c.args.at piece puts.Failed) c.in-Failed.ensures.calls tt tt (c.puts.invariant.plays s base runs.0 runs.1)
+    let whole : piece ≡ drop c.puts.done bytes = take_rest bytes c.puts.done in
+    λ s base now waits plays. breaks_by s base _ _ (end_puts c.args.at (take c.puts.done bytes) now) (Put c.args.at piece puts.Failed) c.in-Failed.ensures.calls tt (put_may c.args.at bytes piece c.puts.done now waits c.puts.invariant.within whole) (c.puts.invariant.plays s base now waits plays)

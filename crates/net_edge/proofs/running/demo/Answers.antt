@@ -1,5 +1,5 @@
-use Rattle.net_edge.proofs.Sending.{sends_pieces}
 use Rattle.net_edge.specs.Due.{setting}
+use Rattle.net_edge.proofs.Sending.{sends_pieces}
 use Rattle.net_edge.proofs.running.demo.Goals as goal
 
 pub returns-clause-pieces : goal.returns-clause-pieces

@@ -1,11 +1,8 @@
-use Rattle.std.proofs.Common.{◌≡◌, ◌+◌, ◌-◌, ◌≤◌, List, [], length}
+use Rattle.std.proofs.Common.{◌≡◌, ◌+◌, ◌-◌, ◌≤◌, List, length}
 use Rattle.pitch_io.specs.Nets.{Call}
 use Rattle.net_edge.specs.Due.{setting}
-use Rattle.net_edge.specs.layers.Markets.{SideAt}
-use Rattle.net_edge.specs.layers.Playing.{DemoAt}
-use Rattle.net_edge.specs.Scene.{Scene, first_scene}
-use Rattle.net_edge.specs.layers.Playing.{all_put}
-use Rattle.net_edge.specs.Turns.{IsOver}
+use Rattle.net_edge.specs.Scene.{Scene}
+use Rattle.net_edge.specs.layers.Playing.{TurnBegins, TurnEnds}
 use Rattle.net_edge.proofs.running.run.Given as goal
 
 abbrev pub invariant-turns : goal.invariant-turns
@@ -15,8 +12,7 @@ invariant-turns g l = record {
   room : length l.into ≡ length l.fn.into;
   later : g.N.Net.faults l.fn.net ≤ g.N.Net.faults l.net;
   still : g.N.Net.faults l.net ≡ g.N.Net.faults l.fn.net;
-  ran : (base : List Call) → DemoAt (setting l.number l.count) base (g.N.Net.calls l.fn.net) l.fn.ends (all_put first_scene) → g.M.VenueSide.has l.fn.market [] []
-      → (now : Scene) × (now.turn ≡ l.turn) × DemoAt (setting l.number l.count) base (g.N.Net.calls l.net) l.ends now × SideAt g.M.VenueSide.has (setting l.number l.count) l.market l.turn × IsOver (setting l.number l.count) now;
+  ran : (base : List Call) (now : Scene) → TurnBegins g.V.Venue.is (setting l.number l.count) base (g.N.Net.calls l.fn.net) l.fn.stage 1 now → TurnEnds g.V.Venue.is (setting l.number l.count) base (g.N.Net.calls l.net) l.stage l.turn;
 }
 
 abbrev pub decreases-turns : goal.decreases-turns

@@ -1,4 +1,5 @@
-use Rattle.spin_path.proofs.Moves.{moves_stay, all_are_taken, spare_is_unheard}
+use Rattle.client_links.proofs.Spare.{spare_is_unheard}
+use Rattle.spin_path.proofs.Moves.{moves_stay, all_are_taken}
 use Rattle.spin_path.proofs.laws.moves_go_on.Goals as goal
 
 pub returns-clause-stay : goal.returns-clause-stay

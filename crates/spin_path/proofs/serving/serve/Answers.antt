@@ -1,7 +1,7 @@
 use Rattle.std.proofs.Common.{refl, subst}
 use Rattle.pitch_model.specs.Advertising.{accepted_by}
 use Rattle.spin_server.specs.Shelves.{Shelf}
-use Rattle.spin_server.specs.ShelfViews.{ShelfShows, seen_of}
+use Rattle.spin_server.specs.layers.ShelfViews.{ShelfShows, seen_of}
 use Rattle.spin_server.proofs.Shelving.{shelf_seen}
 use Rattle.spin_path.specs.Paths.{path_of}
 use Rattle.spin_path.proofs.Pumps.{served_on, views_are_shown}

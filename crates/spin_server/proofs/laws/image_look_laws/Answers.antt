@@ -1,5 +1,5 @@
 use Rattle.session_ends.proofs.Runs.{rises_to, rises_nowhere}
-use Rattle.spin_server.specs.Looking.{ServedLater}
+use Rattle.spin_server.specs.layers.Looking.{ServedLater}
 use Rattle.spin_server.proofs.Serves.{later_order}
 use Rattle.spin_server.proofs.Shelving.{one_served, later_both}
 use Rattle.spin_server.proofs.laws.image_look_laws.Goals as goal

@@ -8,7 +8,8 @@ use Rattle.session_ends.specs.Events as event
 use Rattle.client_end.specs.Links.{gap_link, spin_link}
 use Rattle.client_end.specs.Sessions.{place_says}
 use Rattle.client_end.specs.Came.{EndState, end_after, of_grp, of_spin, grp_link_ticks, both_links_tick, asks_proxy, asks_spin_server}
-use Rattle.client_end.specs.Stands.{ClientHeard, Failed}
+use Rattle.client_end.specs.Stands.{Failed}
+use Rattle.client_end.specs.Parts.{ClientHeard}
 use Rattle.client_end.specs.declared.end.ClientEnd.{ClientEnd}
 use Rattle.client_end.proofs.Losing.{asks_loosely}
 use Rattle.client_end.proofs.Places.{there_is}

@@ -5,7 +5,7 @@ use Rattle.session_ends.specs.Sending.{sent_bytes}
 use Rattle.pitch_messages.specs.declared.session.SessionMessage.TheVariants.{LoginReply}
 use Rattle.session_ends.specs.Closing.{login_status}
 use Rattle.session_ends.proofs.Showing.{shown_same}
-use Rattle.spin_server.specs.Looking.{ServedLater}
+use Rattle.spin_server.specs.layers.Looking.{ServedLater}
 use Rattle.spin_server.proofs.Serves.{later_order, hears_login}
 use Rattle.spin_server.proofs.server.SpinServer.answer_login.Goals as goal
 

@@ -2,7 +2,7 @@ use Rattle.std.proofs.Common.{◌≡◌, false, rules, refl}
 use Rattle.pitch_messages.specs.declared.session.SessionMessage.{SessionMessage}
 use Rattle.session_ends.proofs.Showing.{shown_same}
 use Rattle.spin_server.specs.Served.{Served}
-use Rattle.spin_server.specs.Looking.{ServedLater}
+use Rattle.spin_server.specs.layers.Looking.{ServedLater}
 use Rattle.spin_server.specs.Serving.{spin_message_answer}
 use Rattle.spin_server.proofs.Serves.{later_order, hears_none, hears_as, hears_early}
 use Rattle.spin_server.proofs.server.SpinServer.answer_message.Goals as goal

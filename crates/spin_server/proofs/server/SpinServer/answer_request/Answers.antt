@@ -1,5 +1,5 @@
 use Rattle.session_ends.proofs.Showing.{shown_same}
-use Rattle.spin_server.specs.Looking.{ServedLater}
+use Rattle.spin_server.specs.layers.Looking.{ServedLater}
 use Rattle.spin_server.proofs.Serves.{later_order}
 use Rattle.spin_server.proofs.server.SpinServer.answer_request.Goals as goal
 

@@ -1,7 +1,7 @@
 use Rattle.std.proofs.Common.{◌++◌, ℕ, List, ap, ◌∙◌, sym}
 use Rattle.session_ends.proofs.Ends.{some_is}
 use Rattle.session_ends.proofs.Showing.{shown_same}
-use Rattle.spin_server.specs.Looking.{ServedLater}
+use Rattle.spin_server.specs.layers.Looking.{ServedLater}
 use Rattle.spin_server.proofs.Serves.{later_order, fed_shut, feeds_behind}
 use Rattle.spin_server.proofs.server.SpinServer.feed.Goals as goal
 

@@ -6,7 +6,7 @@ use Rattle.session_ends.proofs.Ends.{none_is, some_is}
 use Rattle.session_ends.specs.layers.Hearing.{reader_items, says}
 use Rattle.session_ends.proofs.Showing.{shown_same, shown_then}
 use Rattle.session_ends.proofs.Runs.{Left, Going, left_none, left_more, left_stop, left_end, going_none, going_more, going_stop, going_end, going_at}
-use Rattle.spin_server.specs.Looking.{ServedLater}
+use Rattle.spin_server.specs.layers.Looking.{ServedLater}
 use Rattle.spin_server.specs.Serving.{Spin, spin_answer}
 use Rattle.spin_server.proofs.Serves.{later_order, hears_kept}
 use Rattle.spin_server.proofs.server.SpinServer.hear_all.Goals as goal

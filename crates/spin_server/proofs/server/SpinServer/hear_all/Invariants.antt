@@ -3,7 +3,7 @@ use Rattle.session_ends.specs.layers.Hearing.{reader_items, says}
 use Rattle.session_ends.specs.layers.Showing.{ShowsLater}
 use Rattle.session_ends.proofs.Runs.{Going, Left}
 use Rattle.spin_server.specs.Served.{Served}
-use Rattle.spin_server.specs.Looking.{ServedLater}
+use Rattle.spin_server.specs.layers.Looking.{ServedLater}
 use Rattle.spin_server.specs.Serving.{Spin, spin_answer}
 use Rattle.spin_server.proofs.server.SpinServer.hear_all.Given as goal
 

@@ -9,7 +9,7 @@ use Rattle.session_ends.proofs.Ends.{takes}
 use Rattle.session_ends.proofs.Through.{Went, went}
 use Rattle.session_ends.proofs.Showing.{shown_same}
 use Rattle.spin_server.specs.Served.{Served}
-use Rattle.spin_server.specs.Looking.{ServedLater}
+use Rattle.spin_server.specs.layers.Looking.{ServedLater}
 use Rattle.spin_server.specs.Serving.{Serving, spin_sends}
 use Rattle.spin_server.proofs.Serves.{later_order, fed_serves}
 use Rattle.spin_server.proofs.server.SpinServer.hear_piece.Goals as goal

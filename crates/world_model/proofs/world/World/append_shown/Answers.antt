@@ -1,7 +1,7 @@
 use Rattle.std.proofs.Common.{◌≡◌, ◌<◌, ℕ, List, ◌++◌, ap, ◌∙◌, append_assoc, arith}
 use Rattle.feed_lines.specs.BookText.{book_text}
 use Rattle.world_model.specs.Printed.{counts_text, shown_state}
-use Rattle.world_model.specs.Stands.{WorldHas}
+use Rattle.world_model.specs.layers.Steps.{WorldHas}
 use Rattle.world_model.specs.State.{State}
 use Rattle.pitch_model.proofs.Results.{on_ok_map}
 use Rattle.pitch_model.specs.Reach.{reach}
@@ -20,7 +20,7 @@ returns-clause-shown c =
     on_ok_map (c.append_counts.new.out.items ≡ c.append_book.new.out.items ++ counts) ((s : State) → WorldHas w s → c.append_counts.new.out.items ≡ old ++ shown_state w.unit w.limits s) c.append_counts.result c.append_counts.ensures.ok
     (λ given s has. given ∙ ap (λ (t : List ℕ). t ++ counts) c.in_ok-append_book.ensures.ok ∙ append_assoc old text counts
     ∙ ap (λ (t : List ℕ). old ++ t) (shown_is w.unit w.limits s c.reach.result book c.counts-a.result c.counts-b.result c.counts-gap.result (seen_client w s has (λ setup now. c.reach.result ≡ reach setup.hold now.heard) c.reach.ensures)
-    (book_is w s has small book c.book.ensures) (c.counts-a.ensures s.notes has.noted) (c.counts-b.ensures s.notes has.noted) (c.counts-gap.ensures s.notes has.noted)))
+    (book_is w s has small book c.book.ensures) (c.counts-a.ensures s.notes has.is.noted) (c.counts-b.ensures s.notes has.is.noted) (c.counts-gap.ensures s.notes has.is.noted)))
 
 pub returns-clause-behind : goal.returns-clause-behind
 returns-clause-behind c =

@@ -1,0 +1,248 @@
+-- What a stage's ends become.
+use Rattle.std.proofs.Common.{◌≡◌, ℕ, ◌++◌, Bool, true, false, cond, List, [], ◌∷◌, drop, map, reverse, refl, sym, ap, ◌∙◌, subst, append_assoc}
+use Rattle.std.proofs.lemmas.List.{append-nil, reverse-append}
+use Rattle.pitch_io.specs.declared.line.Line.{Line}
+use Rattle.pitch_io.specs.declared.net.NetTaken.{NetTaken}
+use Rattle.pitch_io.specs.declared.net.NetTaken.TheVariants.{Got, Quiet, End, Failed}
+use Rattle.pitch_io.specs.layers.Coming.{came}
+use Rattle.pitch_text.specs.declared.verb.Session.{Session}
+use Rattle.pitch_text.specs.declared.verb.Session.TheVariants.{Grp, Spin}
+use Rattle.unit_packets.specs.Blocks.{Block}
+use Rattle.client_end.specs.Came.{Came, EndState, Heard, end_after, end_step}
+use Rattle.client_end.specs.Parts.{EndIs}
+use Rattle.sending_end.specs.Stands.{HearsBlocks, OfSending, Passes, SendingStands, blocks_came}
+use Rattle.sending_end.specs.Stands.{waiting}
+use Rattle.sending_end.specs.Waiting.{of_unit, waits_for_proxy, waits_for_spin_server}
+use Rattle.sending_end.specs.declared.end.SendingEnd.{SendingEnd}
+use Rattle.sending_end.specs.declared.session.Session.{Session as LinkSession}
+use Rattle.sending_end.specs.declared.session.Session.TheVariants.{Proxy, SpinServer as SpinLink}
+use Rattle.venue_end.specs.Came.{VenueCame, VenueState, on_gap_line}
+use Rattle.venue_end.specs.Sessions.{session_of}
+use Rattle.world_model.specs.Ends.{at_client, default_limits, server_cut, server_took, stands, the_session}
+use Rattle.world_model.specs.State.{State, up_taken, up_waits}
+use Rattle.world_model.specs.Verbs.{client_has, hears, hears_block, pumps, sent_whole, settled, venue_has}
+use Rattle.world_model.proofs.Sessions.{pumped_is}
+use Rattle.net_edge.specs.Acting.{server_answers, server_takes}
+use Rattle.net_edge.specs.Due.{demo_unit}
+use Rattle.net_edge.specs.declared.stage.Stage.{Stage}
+use Rattle.net_edge.specs.layers.Ends.{Becomes, HandsOut, HasCome, Holds, Replays, demo_client, demo_venue}
+use Rattle.net_edge.proofs.Taking.{pumped_replayed}
+
+module _ {V : Type 0} (is : V → VenueState → Type 0) where
+  pub becomes_none : (e : Stage V) → Becomes is e e (λ w. w)
+  becomes_none e = record { holds = λ w h. h; ended = refl }
+
+  pub becomes_then : (a b c : Stage V) (f g : State → State) → Becomes is a b f → Becomes is b c g → Becomes is a c (λ w. g (f w))
+  becomes_then a b c f g one two = record { holds = λ w h. two.holds (f w) (one.holds w h); ended = two.ended ∙ one.ended }
+
+  -- ---- What comes to an end
+  pub venue_becomes : (e : Stage V) (venue : V) (new : VenueCame) → HasCome is e.venue venue new → Becomes is e (record e { venue = venue }) (venue_has demo_unit default_limits new)
+  venue_becomes e venue new comes = record {
+    holds = λ w h. record {
+      venue = comes w.venue h.venue;
+      client = record { unit_is = h.client.unit_is; end_is = h.client.end_is; grp_up = h.client.grp_up; spin_up = h.client.spin_up };
+      came = h.came;
+      came_is = h.came_is;
+    };
+    ended = refl;
+  }
+
+  pub client_stands : (e : Stage V) (w : State) → (h : Holds is e w) → SendingStands demo_client e.client h.came
+  client_stands e w h = record { unit_is = h.client.unit_is; end_is = subst (EndIs demo_client e.client.end) h.came_is h.client.end_is }
+
+  -- what a contract says of all that came holds of the world
+  pub seen_client : (e : Stage V) (w : State) (P : EndState → Type 0) → Holds is e w → OfSending e.client (λ c before. (c ≡ demo_client) → P (end_after c before)) → P w.client
+  seen_client e w P h holds = subst P (sym h.came_is) (holds demo_client h.came (client_stands e w h) refl)
+
+  pub client_becomes : (e : Stage V) (client : SendingEnd) (came : Came) → Passes e.client client came → Becomes is e (record e { client = client }) (client_has demo_unit default_limits came)
+  client_becomes e client came passes = record {
+    holds = λ w h.
+        let then = passes demo_client h.came (client_stands e w h) in
+        let at : EndState = end_after demo_client h.came in
+        record {
+          venue = h.venue;
+          client = record {
+            unit_is = then.stands.unit_is;
+            end_is = subst (λ (now : EndState). EndIs demo_client client.end (end_step demo_client came now)) (sym h.came_is) then.stands.end_is;
+            grp_up = subst (λ (now : EndState). client.grp_said.items ≡ waits_for_proxy demo_client came now w.grp_up) (sym h.came_is) (then.proxy ∙ ap (waits_for_proxy demo_client came at) h.client.grp_up);
+            spin_up = subst (λ (now : EndState). client.spin_said.items ≡ waits_for_spin_server demo_client came now w.spin_up) (sym h.came_is) (then.spin_server ∙ ap (waits_for_spin_server demo_client came at) h.client.spin_up);
+          };
+          came = came ∷ h.came;
+          came_is = ap (end_step demo_client came) h.came_is;
+        };
+    ended = refl;
+  }
+
+  -- ---- Blocks
+  module _ (line : Line) where
+    heard_came : (blocks : List Block) (w : State) (came : List Came) → w.client ≡ end_after demo_client came → (hears demo_unit default_limits line blocks w).client ≡ end_after demo_client (blocks_came blocks came)
+    heard_came [] w came same = same
+    heard_came (block ∷ blocks) w came same =
+        heard_came blocks (hears_block demo_unit default_limits line block w) (Heard block ∷ came) (ap (end_step demo_client (Heard block)) same)
+        ∙ ap (end_after demo_client) (sym (came_more block blocks came))
+      where
+        came_more : (block : Block) (blocks : List Block) (came : List Came) → blocks_came (block ∷ blocks) came ≡ blocks_came blocks (Heard block ∷ came)
+        came_more block blocks came =
+            let all : List Came = map (λ (b : Block). Heard b) blocks in
+            ap (λ (l : List Came). l ++ came) (reverse-append (Heard block ∷ []) all) ∙ append_assoc (reverse all) (Heard block ∷ []) came
+
+    heard_is : (blocks : List Block) (w : State) → (hears demo_unit default_limits line blocks w).venue ≡ w.venue
+    heard_is [] w = refl
+    heard_is (block ∷ blocks) w = heard_is blocks (hears_block demo_unit default_limits line block w)
+
+    heard_grp : (blocks : List Block) (w : State) → (hears demo_unit default_limits line blocks w).grp_up ≡ w.grp_up
+    heard_grp [] w = refl
+    heard_grp (block ∷ blocks) w = heard_grp blocks (hears_block demo_unit default_limits line block w)
+
+    heard_spin : (blocks : List Block) (w : State) → (hears demo_unit default_limits line blocks w).spin_up ≡ w.spin_up
+    heard_spin [] w = refl
+    heard_spin (block ∷ blocks) w = heard_spin blocks (hears_block demo_unit default_limits line block w)
+
+    pub hears_becomes : (e : Stage V) (client : SendingEnd) (blocks : List Block) → HearsBlocks e.client client blocks → Becomes is e (record e { client = client }) (hears demo_unit default_limits line (of_unit demo_unit blocks))
+    hears_becomes e client blocks heard = record {
+      holds = λ w h.
+          let ours : List Block = of_unit demo_unit blocks in
+          let then : SendingStands demo_client client (blocks_came ours h.came) =
+          subst (λ (unit : ℕ). SendingStands demo_client client (blocks_came (of_unit unit blocks) h.came)) h.client.unit_is (heard.stands demo_client h.came (client_stands e w h)) in
+          let came_is = heard_came ours w h.came h.came_is in
+          record {
+            venue = subst (is e.venue) (sym (heard_is ours w)) h.venue;
+            client = record {
+              unit_is = then.unit_is;
+              end_is = subst (EndIs demo_client client.end) (sym came_is) then.end_is;
+              grp_up = heard.waits.proxy ∙ h.client.grp_up ∙ sym (heard_grp ours w);
+              spin_up = heard.waits.spin_server ∙ h.client.spin_up ∙ sym (heard_spin ours w);
+            };
+            came = blocks_came ours h.came;
+            came_is = came_is;
+          };
+      ended = refl;
+    }
+
+  -- ---- What was cut is settled
+  pub settles : (session : Session) (e : Stage V) (venue : V) (there : Bool) → ((w : State) → Holds is e w → there ≡ stands session w.client) → there ≡ false → HasCome is e.venue venue (server_cut session) → Becomes is e (record e { venue = venue }) (settled demo_unit default_limits session)
+  settles session e venue there is_there gone comes = record {
+    holds = λ w h. subst (λ (b : Bool). Holds is (record e { venue = venue }) (cond b w (venue_has demo_unit default_limits (server_cut session) w))) (sym gone ∙ is_there w h) ((venue_becomes e venue (server_cut session) comes).holds w h);
+    ended = refl;
+  }
+
+  pub settles_not : (session : Session) (e : Stage V) (there : Bool) → ((w : State) → Holds is e w → there ≡ stands session w.client) → there ≡ true → Becomes is e e (settled demo_unit default_limits session)
+  settles_not session e there is_there stays = record {
+    holds = λ w h. subst (λ (b : Bool). Holds is e (cond b w (venue_has demo_unit default_limits (server_cut session) w))) (sym stays ∙ is_there w h) h;
+    ended = refl;
+  }
+
+  -- ---- What waits at the client's end
+  pub waits_there : (session : Session) (e : Stage V) (w : State) → Holds is e w → waiting (at_client session) e.client ≡ up_waits session w
+  waits_there Grp e w h = h.client.grp_up
+  waits_there Spin e w h = h.client.spin_up
+
+  -- ---- What comes to a server
+  module _ (session : Session) (bytes : List ℕ) (count : ℕ) where
+    pub fed_becomes : (e : Stage V) (venue : V) → HasCome is e.venue venue (server_took session bytes) → Becomes is e (record e { venue = venue }) (server_answers session bytes (Got count))
+    fed_becomes e venue comes = by session comes
+      where
+        by : (x : Session) → HasCome is e.venue venue (server_took x bytes) → Becomes is e (record e { venue = venue }) (server_answers x bytes (Got count))
+        by Grp comes = record {
+          holds = λ w h.
+              let then = (venue_becomes e venue (server_took Grp bytes) comes).holds w h in
+              record {
+                venue = then.venue;
+                client = record { unit_is = then.client.unit_is; end_is = then.client.end_is; grp_up = then.client.grp_up; spin_up = then.client.spin_up };
+                came = then.came;
+                came_is = then.came_is;
+              };
+          ended = refl;
+        }
+        by Spin comes = venue_becomes e venue (server_took Spin bytes) comes
+
+  -- a running image is sent to its end
+  pub whole_becomes : (e : Stage V) (venue : V) → ((w : State) → is e.venue w.venue → is venue (sent_whole demo_unit default_limits w).venue) → Becomes is e (record e { venue = venue }) (sent_whole demo_unit default_limits)
+  whole_becomes e venue whole = record {
+    holds = λ w h. subst (Holds is (record e { venue = venue })) (sym (pumped_is demo_unit default_limits (pumps demo_venue (session_of the_session w.venue.spins)) w)) (record {
+      venue = whole w h.venue;
+      client = record { unit_is = h.client.unit_is; end_is = h.client.end_is; grp_up = h.client.grp_up; spin_up = h.client.spin_up };
+      came = h.came;
+      came_is = h.came_is;
+    });
+    ended = refl;
+  }
+
+  -- nothing came
+  pub nothing_becomes : (session : Session) (into : List ℕ) (taken : NetTaken) (e : Stage V) → ((count : ℕ) → taken ≡ Got count → ⊥) → Becomes is e e (server_answers session (came taken into) taken)
+  nothing_becomes session into (Got count) e none = absurd (none count refl)
+  nothing_becomes Grp into Quiet e none = becomes_none e
+  nothing_becomes Grp into End e none = becomes_none e
+  nothing_becomes Grp into Failed e none = becomes_none e
+  nothing_becomes Spin into Quiet e none = becomes_none e
+  nothing_becomes Spin into End e none = becomes_none e
+  nothing_becomes Spin into Failed e none = becomes_none e
+
+  -- where the turn's calls are over
+  pub serves_whole : (session : Session) (bytes : List ℕ) (taken : NetTaken) (goes_on : Bool) (old mid : Stage V) (venue : V) → session ≡ Spin → goes_on ≡ false → Becomes is old mid (server_answers session bytes taken)
+      → ((w : State) → is mid.venue w.venue → is venue (sent_whole demo_unit default_limits w).venue) → Becomes is old (record mid { venue = venue }) (server_takes session bytes taken goes_on)
+  serves_whole session bytes taken goes_on old mid venue spin over first whole =
+      subst (λ (x : Session). Becomes is old (record mid { venue = venue }) (server_takes x bytes taken goes_on)) (sym spin)
+      (subst (λ (b : Bool). Becomes is old (record mid { venue = venue }) (server_takes Spin bytes taken b)) (sym over)
+      (becomes_then old mid (record mid { venue = venue }) (server_answers Spin bytes taken) (sent_whole demo_unit default_limits) (subst (λ (x : Session). Becomes is old mid (server_answers x bytes taken)) spin first) (whole_becomes mid venue whole)))
+
+  -- what is sent to a server, some of it put
+  pub taken_becomes : (session : Session) (count : ℕ) (e : Stage V) (client : SendingEnd) → waiting (at_client session) client ≡ drop count (waiting (at_client session) e.client)
+      → ((other : LinkSession) → (other ≡ at_client session → ⊥) → waiting other client ≡ waiting other e.client) → OfSending e.client (λ c before. SendingStands c client before)
+      → Becomes is e (record e { client = client }) (up_taken session count)
+  taken_becomes session count e client left others stands = by session left others
+    where
+      apart : ◌≡◌ {A = LinkSession} SpinLink Proxy → ⊥
+      apart e = cc
+
+      apart_too : ◌≡◌ {A = LinkSession} Proxy SpinLink → ⊥
+      apart_too e = cc
+
+      held : (w : State) → Holds is e w → EndIs demo_client client.end w.client
+      held w h = subst (EndIs demo_client client.end) (sym h.came_is) (stands demo_client h.came (client_stands e w h)).end_is
+
+      by : (x : Session) → waiting (at_client x) client ≡ drop count (waiting (at_client x) e.client) → ((other : LinkSession) → (other ≡ at_client x → ⊥) → waiting other client ≡ waiting other e.client) → Becomes is e (record e { client = client }) (up_taken x count)
+      by Grp left others = record {
+        holds = λ w h. record {
+          venue = h.venue;
+          client = record { unit_is = (stands demo_client h.came (client_stands e w h)).unit_is; end_is = held w h; grp_up = left ∙ ap (drop count) h.client.grp_up; spin_up = others SpinLink apart ∙ h.client.spin_up };
+          came = h.came;
+          came_is = h.came_is;
+        };
+        ended = refl;
+      }
+      by Spin left others = record {
+        holds = λ w h. record {
+          venue = h.venue;
+          client = record { unit_is = (stands demo_client h.came (client_stands e w h)).unit_is; end_is = held w h; grp_up = others Proxy apart_too ∙ h.client.grp_up; spin_up = left ∙ ap (drop count) h.client.spin_up };
+          came = h.came;
+          came_is = h.came_is;
+        };
+        ended = refl;
+      }
+
+-- ---- What the proxy has for the gap line by that
+pub fed_replays : (session : Session) (bytes : List ℕ) (count : ℕ) (w : State) (lines lines' : List (List ℕ)) → HandsOut w.venue lines lines' (on_gap_line demo_venue (server_took session bytes) w.venue) → Replays w (server_answers session bytes (Got count)) lines lines'
+fed_replays Grp bytes count w lines lines' hands = record { more = on_gap_line demo_venue (server_took Grp bytes) w.venue; hands = hands; replayed = refl }
+fed_replays Spin bytes count w lines lines' hands = record { more = []; hands = hands; replayed = sym (append-nil w.replayed) }
+
+pub none_replays : (w : State) (becomes : State → State) (lines : List (List ℕ)) → (becomes w).replayed ≡ w.replayed → Replays w becomes lines lines
+none_replays w becomes lines same = record { more = []; hands = record { lined = sym (append-nil lines); pieces = tt }; replayed = same ∙ sym (append-nil w.replayed) }
+
+pub whole_replays : (w : State) (becomes : State → State) (lines lines' : List (List ℕ)) → Replays w becomes lines lines' → Replays w (λ v. sent_whole demo_unit default_limits (becomes v)) lines lines'
+whole_replays w becomes lines lines' is = record { more = is.more; hands = is.hands; replayed = pumped_replayed (pumps demo_venue (session_of the_session (becomes w).venue.spins)) (becomes w) ∙ is.replayed }
+
+pub nothing_replays : (session : Session) (into : List ℕ) (taken : NetTaken) (w : State) (lines : List (List ℕ)) → ((count : ℕ) → taken ≡ Got count → ⊥) → Replays w (server_answers session (came taken into) taken) lines lines
+nothing_replays session into (Got count) w lines none = absurd (none count refl)
+nothing_replays Grp into Quiet w lines none = none_replays w (λ v. v) lines refl
+nothing_replays Grp into End w lines none = none_replays w (λ v. v) lines refl
+nothing_replays Grp into Failed w lines none = none_replays w (λ v. v) lines refl
+nothing_replays Spin into Quiet w lines none = none_replays w (λ v. v) lines refl
+nothing_replays Spin into End w lines none = none_replays w (λ v. v) lines refl
+nothing_replays Spin into Failed w lines none = none_replays w (λ v. v) lines refl
+
+pub serve_replays : (session : Session) (bytes : List ℕ) (taken : NetTaken) (goes_on : Bool) (w : State) (lines lines' : List (List ℕ)) → session ≡ Spin → goes_on ≡ false → Replays w (server_answers session bytes taken) lines lines' → Replays w (server_takes session bytes taken goes_on) lines lines'
+serve_replays session bytes taken goes_on w lines lines' spin over first =
+    subst (λ (x : Session). Replays w (server_takes x bytes taken goes_on) lines lines') (sym spin)
+    (subst (λ (b : Bool). Replays w (server_takes Spin bytes taken b) lines lines') (sym over)
+    (whole_replays w (server_answers Spin bytes taken) lines lines' (subst (λ (x : Session). Replays w (server_answers x bytes taken) lines lines') spin first)))
