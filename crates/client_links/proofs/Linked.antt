@@ -1,49 +1,41 @@
 -- A link over what happens to it.
-use Rattle.std.proofs.Common.{◌≡◌, ℕ, ◌+◌, length, Bool, false, cond, ◌||◌, List, [], ◌∷◌, ◌++◌, refl, sym, ap, ◌∙◌, subst, Option, Some, None, is_some}
-use Rattle.std.specs.List.{list_any}
+use Rattle.std.proofs.Common.{◌≡◌, ℕ, Bool, cond, ◌||◌, List, [], ◌∷◌, ◌++◌, refl, sym, ap, ◌∙◌, subst, Option, Some, None, is_some, MatchOption}
 use Rattle.std.proofs.lemmas.List.{append-nil}
-use Rattle.std.proofs.Math.Bool.{or-false}
-use Rattle.unit_packets.specs.Causes.{counted}
-use Rattle.unit_packets.specs.Reading.{Reading}
-use Rattle.unit_packets.specs.Pieces.{loaded, passed}
 use Rattle.heard_items.specs.declared.item.Item.{Item}
 use Rattle.session_ends.specs.declared.closed.Closed.{Closed}
 use Rattle.session_ends.specs.declared.inbox.Heard.{Heard}
 use Rattle.session_ends.specs.declared.role.Role.{Role}
-use Rattle.session_ends.specs.Closing.{Setup, cause_of, first_cause, logged_in, logs_in}
+use Rattle.session_ends.specs.Closing.{Setup, cause_of, logged_in, logs_in}
 use Rattle.session_ends.specs.Ending.{Ending, EndKnows, known_of}
+use Rattle.session_ends.specs.layers.Driving.{At, Drives, HearsPiece}
 use Rattle.session_ends.specs.layers.Ticking.{nothing_known, known_ticked}
 use Rattle.session_ends.specs.Events.{Event, Fed, Ticked}
-use Rattle.session_ends.specs.layers.Hearing.{reader_items, IsThrough}
-use Rattle.session_ends.specs.Inboxes.{Inboxed}
-use Rattle.session_ends.specs.Sending.{new_items, some_bytes}
-use Rattle.session_ends.proofs.Ends.{Takes, takes, Pieced, fed_end, shut_end, known_none}
-use Rattle.session_ends.proofs.Through.{Went, went}
+use Rattle.session_ends.specs.Sending.{new_items}
+use Rattle.session_ends.proofs.Ends.{Takes, takes, fed_end, shut_end, known_none}
 use Rattle.client_links.specs.Linking.{Lookups, NoLookup, link_sends, link_tells, LinkStands}
 use Rattle.client_links.specs.Telling.{run_of, tells_on, tells, until}
+use Rattle.client_links.specs.layers.Answering.{Tells}
 
 -- ---- Messages
-module _ (s : Setup) (logged : Bool) (item : Heard) (rest tail : List Heard) (run run' : List (List ℕ)) (told told' all : List Item)
-    (so_far : told ++ tells_on s.role run (until s logged rest) ≡ all) (is : rest ≡ item ∷ tail)
-    (hears : (more : List Heard) → told' ++ tells_on s.role run' more ≡ told ++ tells_on s.role run (item ∷ more)) where
-  until_is : until s logged rest ≡ item ∷ cond (is_some (cause_of s logged item)) [] (until s (logged || logs_in s.role item) tail)
-  until_is = ap (until s logged) is
+told_last : (role : Role) (told : List Item) (run : List (List ℕ)) → told ++ run_of role run ≡ told ++ tells_on role run []
+told_last role told run = ap (λ (l : List Item). told ++ l) (sym (append-nil (run_of role (run ++ [])) ∙ ap (run_of role) (append-nil run)))
 
-  then : (more : List Heard) → cond (is_some (cause_of s logged item)) [] (until s (logged || logs_in s.role item) tail) ≡ more → told' ++ tells_on s.role run' more ≡ all
-  then more e = hears more ∙ ap (λ (l : List Heard). told ++ tells_on s.role run l) (sym (until_is ∙ ap (λ (l : List Heard). item ∷ l) e)) ∙ so_far
-
-  pub telling_more : (logged' : Bool) → cause_of s logged item ≡ None → (logged || logs_in s.role item) ≡ logged' → told' ++ tells_on s.role run' (until s logged' tail) ≡ all
-  telling_more logged' none on = then (until s logged' tail)
-      (ap (λ (o : Option Closed). cond (is_some o) [] (until s (logged || logs_in s.role item) tail)) none ∙ ap (λ (b : Bool). until s b tail) on)
-
-  pub telling_stop : (closed : Closed) → cause_of s logged item ≡ Some closed → told' ++ run_of s.role run' ≡ all
-  telling_stop closed some = ap (λ (l : List Item). told' ++ l) (sym (append-nil (run_of s.role (run' ++ [])) ∙ ap (run_of s.role) (append-nil run')))
-      ∙ then [] (ap (λ (o : Option Closed). cond (is_some o) [] (until s (logged || logs_in s.role item) tail)) some)
-
-pub telling_end : (s : Setup) (logged : Bool) (rest : List Heard) (run : List (List ℕ)) (told all : List Item) → told ++ tells_on s.role run (until s logged rest) ≡ all → rest ≡ [] → told ++ run_of s.role run ≡ all
-telling_end s logged rest run told all so_far none =
-    ap (λ (l : List Item). told ++ l) (sym (append-nil (run_of s.role (run ++ [])) ∙ ap (run_of s.role) (append-nil run)))
-    ∙ ap (λ (l : List Heard). told ++ tells_on s.role run (until s logged l)) (sym none) ∙ so_far
+-- nothing is sent, and all that is told up to the message that closes the link was told before the run
+tells_all : {D L : Type 0} (told : D → List Item) (run : D → List (List ℕ)) (s : Setup) (logged : Bool) (items : List Heard) (from to : At D L) → Drives (Tells told run) s logged items from to
+    → (to.said ≡ from.said) × (told to.desk ++ run_of s.role (run to.desk) ≡ told from.desk ++ tells_on s.role (run from.desk) (until s logged items))
+tells_all {D} {L} told run s logged [] from to d =
+    (ap (λ (x : At D L). x.said) d, ap (λ (x : At D L). told x.desk ++ run_of s.role (run x.desk)) d ∙ told_last s.role (told from.desk) (run from.desk))
+tells_all {D} {L} told run s logged (item ∷ items) from to d = by (cause_of s logged item) d.1.1 (λ r. tells_all told run s (logged || logs_in s.role item) items d.0 to r)
+  where
+    by : (c : Option Closed) → MatchOption c (Drives (Tells told run) s (logged || logs_in s.role item) items d.0 to) (λ closed. to ≡ d.0)
+        → (Drives (Tells told run) s (logged || logs_in s.role item) items d.0 to
+        → (to.said ≡ d.0.said) × (told to.desk ++ run_of s.role (run to.desk) ≡ told d.0.desk ++ tells_on s.role (run d.0.desk) (until s (logged || logs_in s.role item) items)))
+        → (to.said ≡ from.said) × (told to.desk ++ run_of s.role (run to.desk) ≡ told from.desk ++ tells_on s.role (run from.desk) (item ∷ cond (is_some c) [] (until s (logged || logs_in s.role item) items)))
+    by None m go = let t = go m in (t.0 ∙ d.1.0.said, t.1 ∙ d.1.0.tells (until s (logged || logs_in s.role item) items))
+    by (Some closed) m go = (
+      ap (λ (x : At D L). x.said) m ∙ d.1.0.said,
+      ap (λ (x : At D L). told x.desk ++ run_of s.role (run x.desk)) m ∙ told_last s.role (told d.0.desk) (run d.0.desk) ∙ d.1.0.tells [],
+    )
 
 -- ---- Events
 pub stands_none : (v : Ending) (role : Role) → v.setup.role ≡ role → EndKnows v (nothing_known role) → LinkStands v []
@@ -53,44 +45,21 @@ pub stands_ticked : (old new : Ending) (es : List (Event Lookups)) → new.setup
 stands_ticked old new es same is = subst (λ (s : Setup). EndKnows new (known_of (link_sends s) s (Ticked ∷ es))) (sym same) is
 
 -- a piece was heard while the link was open
-module _ (es : List (Event Lookups)) (piece : List ℕ) (old new : Ending) (items : List Heard) (inbox : Inboxed) (still : old.closed ≡ None) (stands : LinkStands old es)
-    (t : Takes old.setup es piece old.logged inbox items) (p : Pieced old new piece items inbox []) where
-  pub fed_stands : LinkStands new (Fed piece NoLookup ∷ es)
-  fed_stands = subst (λ (x : Setup). EndKnows new (known_of (link_sends x) x (Fed piece NoLookup ∷ es))) (sym p.setup_is) (fed_end (link_sends old.setup) es piece NoLookup old new items inbox [] still stands t p refl)
-
-  pub fed_tells : tells old.setup old.logged items ≡ link_tells old.setup es piece
-  fed_tells = ap (λ (b : Bool). tells old.setup b items) t.logged_is ∙ ap (λ (l : List Heard). tells old.setup (logged_in old.setup.role es) l) (sym t.new_is)
-      ∙ ap (λ (o : Option Closed). cond (is_some o) [] (tells old.setup (logged_in old.setup.role es) (new_items es piece))) (sym t.open_is)
-
-pub sent_none : (v : Ending) → v ≡ record v { sent = (v.sent || false) }
-sent_none v = ap (λ (b : Bool). record v { sent = b }) (sym (or-false v.sent))
-
--- an open link took a piece in, heard what its reader says, and took the reader back
-pub record HeardPiece (es : List (Event Lookups)) (piece : List ℕ) (old taken back : Ending) (reader : Reading) : Type 0 where
-  pub stands : LinkStands back (Fed piece NoLookup ∷ es)
-  pub role_is : back.setup.role ≡ taken.setup.role
-  pub told : tells taken.setup taken.logged (reader_items reader) ≡ link_tells old.setup es piece
-
-pub heard_piece : (es : List (Event Lookups)) (piece : List ℕ) (old inside taken heard kept back : Ending) (reader : Reading) (count : ℕ) → inside ≡ old → kept ≡ heard → old.closed ≡ None → LinkStands old es
-    → reader ≡ loaded inside.inbox.reading piece → taken.inbox.fed ≡ counted (inside.inbox.fed + length piece) → taken.heard ≡ (inside.heard || some_bytes piece)
-    → taken ≡ record inside { inbox = taken.inbox; heard = taken.heard } → IsThrough reader.rest count
-    → heard ≡ record taken { closed = heard.closed; logged = heard.logged } → heard.closed ≡ first_cause taken.setup taken.logged (reader_items reader)
-    → (heard.closed ≡ None → heard.logged ≡ (taken.logged || list_any (logs_in taken.setup.role) (reader_items reader)))
-    → back ≡ record kept { inbox = record { reading = passed reader count; fed = kept.inbox.fed } } → HeardPiece es piece old taken back reader
-heard_piece es piece old inside taken heard kept back reader count same same' still stands is fed hears first t then closed logged returned =
-    let first' : taken ≡ record old { inbox = taken.inbox; heard = taken.heard } = first ∙ ap (λ (v : Ending). record v { inbox = taken.inbox; heard = taken.heard }) same in
-    let returned' : back ≡ record heard { inbox = record { reading = passed reader count; fed = heard.inbox.fed } } =
-    returned ∙ ap (λ (v : Ending). record v { inbox = record { reading = passed reader count; fed = v.inbox.fed } }) same' in
-    let did : Went old back piece reader [] = went old taken heard back back piece reader count []
-    (is ∙ ap (λ (v : Ending). loaded v.inbox.reading piece) same) (fed ∙ ap (λ (v : Ending). counted (v.inbox.fed + length piece)) same)
-    (hears ∙ ap (λ (v : Ending). v.heard || some_bytes piece) same) first' t then closed logged returned' (sent_none back) in
-    let took : Takes old.setup es piece old.logged back.inbox (reader_items reader) =
-    takes (link_sends old.setup) old.setup es piece NoLookup old back.inbox [] (reader_items reader) still stands refl did.takes in
-    record {
-      stands = fed_stands es piece old back (reader_items reader) back.inbox still stands took did.did;
-      role_is = ap (λ (v : Ending). v.setup.role) returned' ∙ ap (λ (v : Ending). v.setup.role) then;
-      told = ap (λ (v : Ending). tells v.setup v.logged (reader_items reader)) first' ∙ fed_tells es piece old back (reader_items reader) back.inbox still stands took did.did;
-    }
+pub link_fed : {D L : Type 0} (told : D → List Item) (run : D → List (List ℕ)) (es : List (Event Lookups)) (piece said : List ℕ) (old new : Ending) (from to : At D L) → old.closed ≡ None → LinkStands old es
+    → from.said ≡ [] → to.said ≡ said → told from.desk ≡ [] → run from.desk ≡ [] → HearsPiece (Tells told run) old new piece said from to
+    → LinkStands new (Fed piece NoLookup ∷ es) × (told to.desk ++ run_of old.setup.role (run to.desk) ≡ link_tells old.setup es piece)
+link_fed told run es piece said old new from to still stands none_said said_is none_told none_run w =
+    let s : Setup = old.setup in
+    let t : Takes s es piece old.logged new.inbox w.items = takes (link_sends s) s es piece NoLookup old new.inbox [] w.items still stands refl w.takes in
+    let all = tells_all told run s old.logged w.items from to w.drives in (
+      subst (λ (x : Setup). EndKnows new (known_of (link_sends x) x (Fed piece NoLookup ∷ es))) (sym w.did.setup_is)
+          (fed_end (link_sends s) es piece NoLookup old new w.items said still stands t w.did (sym said_is ∙ all.0 ∙ none_said)),
+      all.1 ∙ ap (λ (l : List Item). l ++ tells_on s.role (run from.desk) (until s old.logged w.items)) none_told
+          ∙ ap (λ (r : List (List ℕ)). tells_on s.role r (until s old.logged w.items)) none_run
+          ∙ ap (λ (b : Bool). tells s b w.items) t.logged_is
+          ∙ ap (λ (l : List Heard). tells s (logged_in s.role es) l) (sym t.new_is)
+          ∙ ap (λ (o : Option Closed). cond (is_some o) [] (tells s (logged_in s.role es) (new_items es piece))) (sym t.open_is),
+    )
 
 -- a link that was closed stays as it was, and tells nothing
 pub shut_stands : (v : Ending) (c : Closed) (event : Event Lookups) (es : List (Event Lookups)) → v.closed ≡ Some c → LinkStands v es → LinkStands v (event ∷ es)

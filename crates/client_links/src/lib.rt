@@ -8,6 +8,7 @@
 //! lets it tick once a second. A link that has closed takes bytes and does nothing.
 #![tactic(auto)]
 
+mod desk;
 mod gap_link;
 mod items;
 mod laws;

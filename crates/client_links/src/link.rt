@@ -1,34 +1,29 @@
 //! A link, whoever its peer is: it reads a stream, tells items, sends requests, and ticks.
 
-ghost use Rattle.std.specs.Prelude.{◌≡◌, ℕ, ◌||◌, List, [], ◌∷◌, ◌++◌, ◌+◌, length, map, OnOk};
+ghost use Rattle.std.specs.Prelude.{◌≡◌, List, [], ◌∷◌, ◌++◌, ◌+◌, length, map, OnOk};
 ghost use Rattle.std.specs.Prelude.{OnErr, IsOk, IfOk, IfSome, None, Some};
-ghost use Rattle.std.specs.List.{list_any};
 ghost use Rattle.unit_packets.specs.Causes.{counted};
 ghost use Rattle.session_ends.specs.declared.closed.CloseCause.TheVariants.{Memory};
-ghost use Rattle.session_ends.specs.declared.inbox.Heard.{Heard};
-ghost use Rattle.session_ends.specs.Closing.{cause_of, closed_of, first_cause, logs_in};
+ghost use Rattle.session_ends.specs.Closing.{closed_of};
 ghost use Rattle.session_ends.specs.Ending.{EndKnows};
 ghost use Rattle.session_ends.specs.layers.Ticking.{nothing_known};
 ghost use Rattle.session_ends.specs.Events.{Event, Fed, Ticked, Asked};
 ghost use Rattle.session_ends.specs.layers.Happening.{Happens, OfEvents};
-ghost use Rattle.session_ends.specs.layers.Hearing.{reader_items, IsThrough};
 ghost use Rattle.session_ends.specs.Items.{closed_at};
 ghost use Rattle.session_ends.specs.Sending.{sent_at_tick};
 ghost use Rattle.client_links.specs.Linking.{Lookups, NoLookup, link_setup, login_bytes};
 ghost use Rattle.client_links.specs.Linking.{link_sends, link_tells, LinkStands};
-ghost use Rattle.client_links.specs.Telling.{without_spare, run_of, told_of, tells_on};
-ghost use Rattle.client_links.specs.Telling.{message_tells, tells};
+ghost use Rattle.client_links.specs.Telling.{without_spare};
 
+use crate::desk::Desk;
 use crate::items::ItemList;
 use heard_items::Item;
 use pitch_fields::OutOfMemory;
 use pitch_messages::RawList;
 use pitch_messages::session::SessionMessage;
-use session_ends::{Account, Closed, End, Heard, LentRaw, Role, Said, Sayings};
+use session_ends::{Account, Closed, End, Role};
 use std::alloc::Global;
 use std::marker::{Model, PhantomData};
-use std::mem::replace;
-use unit_packets::BlockReader;
 
 /// With whom a link connects its client.
 pub trait Peer {
@@ -48,79 +43,15 @@ pub trait Peer {
 pub struct Link<P> {
     alloc: Global,
     end: End,
-    spin: bool,
     peer: PhantomData<P>,
 }
 
 impl<P> Model for Link<P> {
-    ghost use Rattle.std.specs.Prelude.{◌≡◌};
     ghost use Rattle.session_ends.specs.Ending.{Ending};
-    ghost use Rattle.client_links.specs.Telling.{hands_out};
 
     ghost Value = { Ending };
 
     ghost view = { λ l. l.end };
-
-    ghost invariant = { λ l. l.spin ≡ hands_out l.end.setup.role };
-}
-
-// Appends what a message tells that does not close a link.
-fn tell(spin: bool, message: &SessionMessage, told: &mut Vec<Item>) -> Result<(), OutOfMemory>
-    ensures { OnOk result (told.new.items ≡ told.old.items ++ told_of spin message.now) }
-{
-    match message {
-        SessionMessage::LoginReply { status } => {
-            if *status != b'A' {
-                return Ok(());
-            }
-            if spin {
-                told.push(Item::SpinUp)?;
-                return Ok(());
-            }
-            told.push(Item::GrpUp)?;
-            Ok(())
-        }
-        SessionMessage::GapReply {
-            sequence,
-            count,
-            status,
-            ..
-        } => {
-            told.push(Item::GapReply {
-                sequence: *sequence,
-                count: *count,
-                status: *status,
-            })?;
-            Ok(())
-        }
-        SessionMessage::SpinAvailable { sequence } => {
-            told.push(Item::Advertised {
-                sequence: *sequence,
-            })?;
-            Ok(())
-        }
-        SessionMessage::SpinReply {
-            sequence,
-            orders,
-            status,
-        } => {
-            told.push(Item::SpinReply {
-                sequence: *sequence,
-                orders: *orders,
-                status: *status,
-            })?;
-            Ok(())
-        }
-        SessionMessage::SpinFinished { sequence } => {
-            told.push(Item::SpinFinished {
-                sequence: *sequence,
-            })?;
-            Ok(())
-        }
-        SessionMessage::Login { .. } => Ok(()),
-        SessionMessage::GapRequest { .. } => Ok(()),
-        SessionMessage::SpinRequest { .. } => Ok(()),
-    }
 }
 
 impl<P: Peer> Link<P> {
@@ -137,8 +68,7 @@ impl<P: Peer> Link<P> {
             (out.new.items ≡ out.old.items ++ login_bytes P.role unit account.now) }
         ensures err { OnErr result (out.new.items ≡ out.old.items) }
     {
-        let role = P::role();
-        let end = End::make(alloc, role, unit, Vec::new(alloc), false);
+        let end = End::make(alloc, P::role(), unit, Vec::new(alloc), false);
         end.put(
             &SessionMessage::Login {
                 sub: account.sub,
@@ -150,7 +80,6 @@ impl<P: Peer> Link<P> {
         Ok(Link {
             alloc,
             end,
-            spin: role == Role::SpinLink,
             peer: PhantomData,
         })
     }
@@ -164,128 +93,25 @@ impl<P: Peer> Link<P> {
         self.end.closed()
     }
 
-    // Appends a run of other messages, and begins the next.
-    fn put_run(&self, run: &mut RawList, told: &mut Vec<Item>) -> Result<(), OutOfMemory>
-        ensures told { OnOk result (map without_spare told.new.items
-            ≡ map without_spare told.old.items ++ run_of self.now.setup.role run.old.items) }
-        ensures run { OnOk result (run.new.items ≡ []) }
-    {
-        if run.len() == 0 {
-            return Ok(());
-        }
-        let raws = replace(run, RawList::make(self.alloc));
-        if !self.spin {
-            return Ok(());
-        }
-        told.push(Item::ImageMessages { raws })?;
-        Ok(())
-    }
-
-    // Hears a message that says something.
-    fn hear_message(
-        &self,
-        said: &Said,
-        raw: &LentRaw<'_>,
-        run: &mut RawList,
-        told: &mut Vec<Item>,
-    ) -> Result<(), OutOfMemory>
-        ensures { OnOk result ((rest : List Heard) → map without_spare told.new.items
-            ++ tells_on self.now.setup.role run.new.items rest ≡ map without_spare told.old.items
-            ++ message_tells self.now.setup.role said.now raw.now run.old.items rest) }
-    {
-        match said {
-            Said::Skipped => {
-                run.push_bytes(raw.bytes())?;
-                Ok(())
-            }
-            Said::TooShort => {
-                self.put_run(run, told)?;
-                Ok(())
-            }
-            Said::Message(message) => {
-                self.put_run(run, told)?;
-                tell(self.spin, message, told)?;
-                Ok(())
-            }
-        }
-    }
-
-    // Hears what the stream says next.
-    fn hear(
-        &self,
-        item: &Heard<'_>,
-        run: &mut RawList,
-        told: &mut Vec<Item>,
-    ) -> Result<(), OutOfMemory>
-        ensures { OnOk result ((rest : List Heard) → map without_spare told.new.items
-            ++ tells_on self.now.setup.role run.new.items rest ≡ map without_spare told.old.items
-            ++ tells_on self.now.setup.role run.old.items (item.now ∷ rest)) }
-    {
-        match item {
-            Heard::Message { raw, .. } => {
-                let said = self.end.said(item);
-                self.hear_message(&said, raw, run, told)?;
-                Ok(())
-            }
-            Heard::BlockEnd => {
-                self.put_run(run, told)?;
-                Ok(())
-            }
-            Heard::Broken(_) => {
-                self.put_run(run, told)?;
-                Ok(())
-            }
-        }
-    }
-
-    // Hears what the bytes of a reader say, until the link closes, and answers how many bytes the
-    // whole blocks have.
-    fn hear_all(
-        &mut self,
-        reader: &BlockReader,
-        run: &mut RawList,
-        told: &mut Vec<Item>,
-    ) -> Result<usize, OutOfMemory>
-        requires open { self.old.closed ≡ None }
-        requires no_run { run.old.items ≡ [] }
-        ensures through { IfOk result (λ count. IsThrough reader.now.rest count) }
-        ensures closed { OnOk result (self.new.closed ≡ first_cause self.old.setup self.old.logged
-            (reader_items reader.now)) }
-        ensures logged { OnOk result (self.new.closed ≡ None → self.new.logged ≡ (self.old.logged
-            || list_any (logs_in self.old.setup.role) (reader_items reader.now))) }
-        ensures rest { self.new ≡ record self.old { closed = self.new.closed; logged = self.new.logged } }
-        ensures tells { OnOk result (map without_spare told.new.items
-            ++ run_of self.old.setup.role run.new.items ≡ map without_spare told.old.items
-            ++ tells self.old.setup self.old.logged (reader_items reader.now)) }
-    {
-        let mut items = Sayings::of(reader);
-        'items: while let Some(item) = items.next_item() {
-            self.hear(&item, run, told)?;
-            self.end.judge(&item);
-            if self.end.is_closed() {
-                return Ok(items.finish());
-            }
-        }
-        Ok(items.finish())
-    }
-
-    // Hears a piece while the link is open; what it tells is put into an empty list.
-    fn hear_piece(&mut self, piece: &[u8], told: &mut Vec<Item>) -> Result<(), OutOfMemory>
-        requires open { self.old.closed ≡ None }
-        requires none_told { told.old.items ≡ [] }
+    // Hears a piece while the link is open, and answers what it tells.
+    fn hear_piece(&mut self, piece: &[u8]) -> Result<Vec<Item>, OutOfMemory>
+        requires { self.old.closed ≡ None }
         ensures stands { OnOk result
             (Happens LinkStands self.old self.new (Fed piece.now NoLookup)) }
-        ensures tells { OnOk result (OfEvents LinkStands self.old
-            (λ es. map without_spare told.new.items ≡ link_tells self.old.setup es piece.now)) }
+        ensures tells { IfOk result (λ told. OfEvents LinkStands self.old
+            (λ es. map without_spare told.items ≡ link_tells self.old.setup es piece.now)) }
         ensures setup { self.new.setup ≡ self.old.setup }
         ensures count { self.new.inbox.fed ≡ counted (self.old.inbox.fed + length piece.now) }
     {
-        let reader = self.end.take(piece)?;
-        let mut run = RawList::make(self.alloc);
-        let count = self.hear_all(&reader, &mut run, told)?;
-        self.end.put_back(reader, count);
-        self.put_run(&mut run, told)?;
-        Ok(())
+        let mut said = Vec::new(self.alloc);
+        let mut desk = Desk {
+            alloc: self.alloc,
+            run: RawList::make(self.alloc),
+            told: Vec::new(self.alloc),
+        };
+        self.end.hear(piece, &mut desk, &mut (), &mut said)?;
+        desk.put_run(&self.end)?;
+        Ok(desk.told)
     }
 
     /// Takes the next piece of the stream, and appends what it tells the client, in the order of
@@ -318,9 +144,8 @@ impl<P: Peer> Link<P> {
         if self.end.is_closed() {
             return Ok(());
         }
-        let mut told: Vec<Item> = Vec::new(self.alloc);
-        match self.hear_piece(piece, &mut told) {
-            Ok(()) => match items.append(told) {
+        match self.hear_piece(piece) {
+            Ok(told) => match items.append(told) {
                 Ok(()) => return Ok(()),
                 Err(_) => {}
             },

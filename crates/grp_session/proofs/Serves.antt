@@ -1,5 +1,5 @@
 -- The proxy's end over what happens to it.
-use Rattle.std.proofs.Common.{◌≡◌, ℕ, Bool, true, false, cond, List, [], ◌∷◌, ◌++◌, length, replicate, sym, ap, ◌∙◌, subst, Option, Some, None, is_some, nat_eq}
+use Rattle.std.proofs.Common.{◌≡◌, ℕ, Bool, true, false, cond, List, [], ◌∷◌, ◌++◌, length, replicate, refl, sym, ap, ◌∙◌, subst, Option, Some, None, is_some, nat_eq}
 use Rattle.std.proofs.lemmas.List.{append-nil}
 use Rattle.std.proofs.lemmas.Bool.{eq-eqb}
 use Rattle.pitch_messages.specs.declared.session.SessionMessage.{SessionMessage}
@@ -9,19 +9,18 @@ use Rattle.gap_store.specs.layers.Looking.{IsLater}
 use Rattle.session_ends.specs.declared.closed.Closed.{Closed}
 use Rattle.session_ends.specs.declared.inbox.Heard.{Heard}
 use Rattle.session_ends.specs.declared.role.Said.{Said}
-use Rattle.session_ends.specs.declared.role.Said.TheVariants.{Message}
 use Rattle.session_ends.specs.Saying.{heard_by}
-use Rattle.session_ends.specs.Inboxes.{Inboxed}
 use Rattle.session_ends.specs.Answering.{Answer, no_answer, answers}
-use Rattle.session_ends.specs.layers.Hearings.{Hears, HearsAll}
+use Rattle.session_ends.specs.layers.Hearings.{Hears, HearsAll, Serves}
 use Rattle.session_ends.specs.Closing.{Setup, logged_in}
 use Rattle.session_ends.specs.Ending.{Ending, EndKnows, known_of}
 use Rattle.session_ends.specs.layers.Ticking.{nothing_known, known_ticked}
 use Rattle.session_ends.specs.declared.role.Role.{Role}
 use Rattle.session_ends.specs.Events.{Event, Fed, Ticked}
 use Rattle.session_ends.specs.Sending.{sent_bytes, new_items}
-use Rattle.session_ends.proofs.Ends.{Takes, Pieced, fed_end, shut_end, known_none}
-use Rattle.session_ends.proofs.Runs.{rises_rest, size_rest}
+use Rattle.session_ends.specs.layers.Driving.{At, HearsPiece}
+use Rattle.session_ends.proofs.Ends.{Takes, takes, fed_end, shut_end, known_none}
+use Rattle.session_ends.proofs.Runs.{rises_rest, size_rest, served_all, served_same}
 use Rattle.grp_session.specs.Asking.{gap_status, datagrams_of}
 use Rattle.grp_session.specs.layers.Ranges.{IsAsked}
 use Rattle.grp_session.specs.Budget.{Limits, Spent}
@@ -94,13 +93,6 @@ hears_request s there l logged spent view unit sequence count message counted sh
     subst (λ (x : SessionMessage). Hears (λ (v : View). message_answer s there l logged spent v x) IsLater view counted shown reply reply' lines lines') (sym is)
     (subst (λ (b : Bool). Hears (λ (v : View). message_answer s there l b spent v (GapRequest unit sequence count)) IsLater view counted shown reply reply' lines lines') (sym on) h)
 
--- what was said is a message
-pub hears_message : (s : Setup) (there : Bool) (l : Limits) (logged : Bool) (spent : Spent) (view : View) (message : SessionMessage) (said : Said) (counted : Spent → Type 0) (shown : View → Type 0) (reply reply' : List ℕ) (lines lines' : List (List ℕ))
-    → said ≡ Message message → Hears (λ (v : View). message_answer s there l logged spent v message) IsLater view counted shown reply reply' lines lines'
-    → Hears (λ (v : View). said_answer s there l logged spent v said) IsLater view counted shown reply reply' lines lines'
-hears_message s there l logged spent view message said counted shown reply reply' lines lines' is h =
-    subst (λ (x : Said). Hears (λ (v : View). said_answer s there l logged spent v x) IsLater view counted shown reply reply' lines lines') (sym is) h
-
 -- what was said is what the stream says next
 pub hears_item : (s : Setup) (there : Bool) (l : Limits) (logged : Bool) (spent : Spent) (view : View) (said : Said) (item : Heard) (counted : Spent → Type 0) (shown : View → Type 0) (reply reply' : List ℕ) (lines lines' : List (List ℕ))
     → said ≡ heard_by s.role item → Hears (λ (v : View). said_answer s there l logged spent v said) IsLater view counted shown reply reply' lines lines'
@@ -108,32 +100,24 @@ pub hears_item : (s : Setup) (there : Bool) (l : Limits) (logged : Bool) (spent 
 hears_item s there l logged spent view said item counted shown reply reply' lines lines' is h =
     subst (λ (x : Said). Hears (λ (v : View). said_answer s there l logged spent v x) IsLater view counted shown reply reply' lines lines') is h
 
-pub hears_at : (s' s : Setup) (there : Bool) (l' l : Limits) (logged : Bool) (spent : Spent) (view : View) (item : Heard) (counted : Spent → Type 0) (shown : View → Type 0) (reply reply' : List ℕ) (lines lines' : List (List ℕ))
-    → s' ≡ s → l' ≡ l → Hears (λ (v : View). grp_answer s' there l' logged spent v item) IsLater view counted shown reply reply' lines lines'
-    → Hears (λ (v : View). grp_answer s there l logged spent v item) IsLater view counted shown reply reply' lines lines'
-hears_at s' s there l' l logged spent view item counted shown reply reply' lines lines' p q h =
-    subst (λ (x : Setup). Hears (λ (v : View). grp_answer x there l logged spent v item) IsLater view counted shown reply reply' lines lines') p
-    (subst (λ (x : Limits). Hears (λ (v : View). grp_answer s' there x logged spent v item) IsLater view counted shown reply reply' lines lines') q h)
-
 -- a piece was heard while the end was open
-pub fed_serves : (es : List (Event Source)) (piece : List ℕ) (old new : Ending) (items : List Heard) (inbox : Inboxed) (setup : Setup) (logged there : Bool) (l : Limits) (spent : Spent) (view : View) (counted : Spent → Type 0) (shown : View → Type 0)
-    (reply reply' : List ℕ) (lines lines' : List (List ℕ))
-    → old.closed ≡ None → ProxyStands old es → reply ≡ [] → lines ≡ [] → Takes old.setup es piece old.logged inbox items → Pieced old new piece items inbox reply'
-    → setup ≡ old.setup → logged ≡ old.logged → HearsAll setup (grp_answer setup there l) IsLater logged items spent view counted shown reply reply' lines lines'
-    → ProxyFeeds es piece old new there l spent view counted shown [] reply' [] lines'
-fed_serves es piece old new items inbox setup logged there l spent view counted shown reply reply' lines lines' still stands none_said none_sent t p same was heard =
+pub fed_serves : {D L : Type 0} (terms : D → Bool × Limits) (counted : D → Spent → Type 0) (lines : D → List (List ℕ)) (shows : L → View → Type 0) (es : List (Event Source)) (piece said : List ℕ) (old new : Ending) (from to : At D L) (there : Bool) (l : Limits) (spent : Spent) (view : View)
+    → old.closed ≡ None → ProxyStands old es → terms from.desk ≡ (there, l) → from.said ≡ [] → lines from.desk ≡ [] → to.said ≡ said → HearsPiece (Serves terms (λ (t : Bool × Limits) (s : Setup). grp_answer s t.0 t.1) counted lines shows IsLater) old new piece said from to
+    → counted from.desk spent → shows from.source view → ProxyFeeds es piece old new there l spent view (counted to.desk) (shows to.source) [] said [] (lines to.desk)
+fed_serves terms counted lines shows es piece said old new from to there l spent view still stands by_terms none_said none_sent said_is w k shown =
     let s : Setup = old.setup in
-    let h : HearsAll s (grp_answer s there l) IsLater old.logged items spent view counted shown reply reply' lines lines' =
-    subst (λ (x : Setup). HearsAll x (grp_answer x there l) IsLater old.logged items spent view counted shown reply reply' lines lines') same
-    (subst (λ (b : Bool). HearsAll setup (grp_answer setup there l) IsLater b items spent view counted shown reply reply' lines lines') was heard) in
+    let h : HearsAll s (grp_answer s there l) IsLater old.logged w.items spent view (counted to.desk) (shows to.source) from.said to.said (lines from.desk) (lines to.desk) =
+    subst (λ (t : Bool × Limits). HearsAll s (grp_answer s t.0 t.1) IsLater old.logged w.items spent view (counted to.desk) (shows to.source) from.said to.said (lines from.desk) (lines to.desk)) by_terms
+    (served_all terms (λ (t : Bool × Limits) (s : Setup). grp_answer s t.0 t.1) counted lines shows IsLater later_order s old.logged w.items from to w.drives spent view k shown) in
     let source : Source = record { there = there; views = h.views; limits = l; spent = spent } in
-    let a : Answer Spent = answers s (grp_answer s there l) old.logged spent h.views items in
-    let said : proxy_answer s es piece source ≡ a =
+    let t : Takes s es piece old.logged new.inbox w.items = takes (grp_sends s) s es piece source old new.inbox [] w.items still stands refl w.takes in
+    let a : Answer Spent = answers s (grp_answer s there l) old.logged spent h.views w.items in
+    let answered : proxy_answer s es piece source ≡ a =
     ap (λ (o : Option Closed). cond (is_some o) (no_answer spent) (answers s (grp_answer s there l) (logged_in s.role es) spent h.views (new_items es piece))) t.open_is
     ∙ ap (λ (x : List Heard). answers s (grp_answer s there l) (logged_in s.role es) spent h.views x) t.new_is
-    ∙ ap (λ (b : Bool). answers s (grp_answer s there l) b spent h.views items) (sym t.logged_is) in
-    let replied : reply' ≡ a.reply = h.replied ∙ ap (λ (x : List ℕ). x ++ a.reply) none_said in
-    let bytes : reply' ≡ (proxy_answer s es piece source).reply = replied ∙ ap (λ (x : Answer Spent). x.reply) (sym said) in
+    ∙ ap (λ (b : Bool). answers s (grp_answer s there l) b spent h.views w.items) (sym t.logged_is) in
+    let bytes : said ≡ (proxy_answer s es piece source).reply = sym said_is ∙ h.replied ∙ ap (λ (x : List ℕ). x ++ a.reply) none_said ∙ ap (λ (x : Answer Spent). x.reply) (sym answered) in
+    let sent : lines to.desk ≡ a.lines = h.lined ∙ ap (λ (x : List (List ℕ)). x ++ a.lines) none_sent in
     record {
       views = h.views;
       each = h.each ∙ ap length (sym t.new_is);
@@ -141,13 +125,19 @@ fed_serves es piece old new items inbox setup logged there l spent view counted 
       rises = h.rises;
       shows = h.shows;
       answered = record {
-        stands = subst (λ (x : Setup). EndKnows new (known_of (grp_sends x) x (Fed piece source ∷ es))) (sym p.setup_is) (fed_end (grp_sends s) es piece source old new items inbox reply' still stands t p bytes);
-        counts = subst (λ (x : Answer Spent). counted x.knows) (sym said) h.state_is;
+        stands = subst (λ (x : Setup). EndKnows new (known_of (grp_sends x) x (Fed piece source ∷ es))) (sym w.did.setup_is) (fed_end (grp_sends s) es piece source old new w.items said still stands t w.did bytes);
+        counts = subst (λ (x : Answer Spent). counted to.desk x.knows) (sym answered) h.state_is;
         replied = bytes;
-        lined = h.lined ∙ ap (λ (x : List (List ℕ)). x ++ a.lines) none_sent ∙ ap (λ (x : Answer Spent). x.lines) (sym said);
+        lined = sent ∙ ap (λ (x : Answer Spent). x.lines) (sym answered);
       };
-      packing = λ are. (a.lines, h.lined ∙ ap (λ (x : List (List ℕ)). x ++ a.lines) none_sent, answered_lines s there l h.now are old.logged spent h.views items view h.rises);
+      packing = λ are. (a.lines, sent, answered_lines s there l h.now are old.logged spent h.views w.items view h.rises);
     }
+
+-- by limits that stay
+pub fed_limits : {D L : Type 0} (terms : D → Bool × Limits) (counted : D → Spent → Type 0) (lines : D → List (List ℕ)) (shows : L → View → Type 0) (piece said : List ℕ) (old new : Ending) (from to : At D L)
+    → HearsPiece (Serves terms (λ (t : Bool × Limits) (s : Setup). grp_answer s t.0 t.1) counted lines shows IsLater) old new piece said from to → (terms to.desk).1 ≡ (terms from.desk).1
+fed_limits terms counted lines shows piece said old new from to w =
+    ap (λ (t : Bool × Limits). t.1) (served_same terms (λ (t : Bool × Limits) (s : Setup). grp_answer s t.0 t.1) counted lines shows IsLater old.setup old.logged w.items from to w.drives)
 
 -- an end that was closed stays as it was, and says nothing
 pub fed_shut : (es : List (Event Source)) (piece : List ℕ) (v : Ending) (c : Closed) (there : Bool) (l : Limits) (spent : Spent) (view : View) (counted : Spent → Type 0) (shown : View → Type 0) (reply : List ℕ) (lines : List (List ℕ))

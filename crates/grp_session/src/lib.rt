@@ -9,6 +9,7 @@
 
 mod asking;
 mod budget;
+mod desk;
 mod laws;
 mod server;
 

@@ -1,39 +1,33 @@
 //! The Gap Request Proxy's side of a session: logins, gap requests, heartbeats and closing.
 
-ghost use Rattle.std.specs.Prelude.{◌≡◌, ℕ, ◌||◌, Bool, true, false, List, [], ◌∷◌, ◌++◌, ◌+◌};
-ghost use Rattle.std.specs.Prelude.{length, OnOk, OnErr, IsOk, IfOk, IfSome, None, Some, is_some};
-ghost use Rattle.std.specs.List.{list_any};
+ghost use Rattle.std.specs.Prelude.{◌≡◌, true, false, List, [], ◌∷◌, ◌++◌, ◌+◌, length};
+ghost use Rattle.std.specs.Prelude.{OnOk, OnErr, IsOk, IfSome, Some};
 ghost use Rattle.unit_packets.specs.Packing.{bytes_in};
 ghost use Rattle.unit_packets.specs.Causes.{counted};
-ghost use Rattle.pitch_messages.specs.declared.session.SessionMessage.TheVariants.{GapReply};
 ghost use Rattle.gap_store.specs.Look.{View};
 ghost use Rattle.gap_store.specs.layers.Looking.{IsLater};
 ghost use Rattle.session_ends.specs.declared.closed.CloseCause.TheVariants.{Memory};
 ghost use Rattle.session_ends.specs.declared.role.Role.TheVariants.{GrpServer as GrpRole};
-ghost use Rattle.session_ends.specs.layers.Hearings.{Hears, HearsAll};
-ghost use Rattle.session_ends.specs.Closing.{cause_of, closed_of, first_cause, logs_in};
+ghost use Rattle.session_ends.specs.Closing.{closed_of};
 ghost use Rattle.session_ends.specs.Events.{Event, Ticked};
 ghost use Rattle.session_ends.specs.layers.Happening.{Happens, OfEvents};
-ghost use Rattle.session_ends.specs.layers.Hearing.{reader_items, IsThrough};
 ghost use Rattle.session_ends.specs.Items.{closed_at};
-ghost use Rattle.session_ends.specs.Sending.{sent_bytes, sent_at_tick};
+ghost use Rattle.session_ends.specs.Sending.{sent_at_tick};
 ghost use Rattle.session_ends.specs.layers.Showing.{ShowsLater};
 ghost use Rattle.grp_session.specs.Budget.{Spent, Counted};
 ghost use Rattle.grp_session.specs.layers.Lent.{OnLent, OnNone, Left};
-ghost use Rattle.grp_session.specs.Serving.{Source, request_answer, message_answer, said_answer};
-ghost use Rattle.grp_session.specs.Serving.{grp_answer, grp_sends, ProxyStands};
+ghost use Rattle.grp_session.specs.Serving.{Source, grp_sends, ProxyStands};
 ghost use Rattle.grp_session.specs.layers.Feeding.{ProxyFeeds};
 
-use crate::asking::{GapRange, ask};
 use crate::budget::GapBudget;
+use crate::desk::Desk;
 use gap_store::{Found, GapLookup};
 use pitch_fields::OutOfMemory;
 use pitch_messages::RawList;
-use pitch_messages::session::SessionMessage;
-use session_ends::{Account, Closed, End, Heard, Role, Said, Sayings};
+use session_ends::{Account, Closed, End, Role};
 use std::alloc::Global;
 use std::marker::Model;
-use unit_packets::{BlockReader, DatagramList};
+use unit_packets::DatagramList;
 
 /// The Gap Request Proxy's end of a session of one unit.
 #[derive(Drop)]
@@ -127,247 +121,6 @@ impl GrpServer {
         self.end.closed()
     }
 
-    fn is_closed(&self) -> bool
-        ensures { result ≡ is_some self.now.closed }
-    {
-        self.end.is_closed()
-    }
-
-    // Appends the reply to a gap request.
-    fn put_status(
-        &self,
-        range: GapRange,
-        status: u8,
-        reply: &mut Vec<u8>,
-    ) -> Result<(), OutOfMemory>
-        ensures { OnOk result (reply.new.items ≡ reply.old.items
-            ++ sent_bytes self.now.setup (GapReply range.unit range.first range.count status)) }
-    {
-        self.end.put(
-            &SessionMessage::GapReply {
-                unit: range.unit,
-                sequence: range.first,
-                count: range.count,
-                status,
-            },
-            reply,
-        )
-    }
-
-    // Answers a gap request after an accepted login.
-    fn answer_request<L: GapLookup>(
-        &self,
-        there: bool,
-        range: GapRange,
-        budget: &mut GapBudget,
-        lookup: &mut L,
-        reply: &mut Vec<u8>,
-        gap_line: &mut DatagramList,
-    ) -> Result<(), OutOfMemory>
-        ensures same { L.still ≡ true → lookup.new ≡ lookup.old }
-        ensures left { (view : View)
-            → L.shows lookup.old view → ShowsLater IsLater (L.shows lookup.new) view }
-        ensures limits { budget.new.limits ≡ budget.old.limits }
-        ensures hears { OnOk result ((spent : Spent) (view : View) → Counted budget.old spent
-            → L.shows lookup.old view → Hears (λ v. request_answer self.now.setup
-            there budget.old.limits v spent range.unit range.first range.count) IsLater view
-            (Counted budget.new) (L.shows lookup.new) reply.old.items reply.new.items
-            (bytes_in gap_line.old.items) (bytes_in gap_line.new.items)) }
-    {
-        if range.unit != self.end.unit() {
-            self.put_status(range, b'I', reply)?;
-            return Ok(());
-        }
-        let status = ask(self.alloc, there, range, budget, lookup, gap_line)?;
-        self.put_status(range, status, reply)?;
-        Ok(())
-    }
-
-    // Answers a message that the end reads.
-    fn answer_message<L: GapLookup>(
-        &self,
-        there: bool,
-        message: &SessionMessage,
-        budget: &mut GapBudget,
-        lookup: &mut L,
-        reply: &mut Vec<u8>,
-        gap_line: &mut DatagramList,
-    ) -> Result<(), OutOfMemory>
-        ensures same { L.still ≡ true → lookup.new ≡ lookup.old }
-        ensures left { (view : View)
-            → L.shows lookup.old view → ShowsLater IsLater (L.shows lookup.new) view }
-        ensures limits { budget.new.limits ≡ budget.old.limits }
-        ensures hears { OnOk result ((spent : Spent) (view : View)
-            → Counted budget.old spent → L.shows lookup.old view → Hears (λ v. message_answer
-            self.now.setup there budget.old.limits self.now.logged spent v message.now) IsLater view
-            (Counted budget.new) (L.shows lookup.new) reply.old.items reply.new.items
-            (bytes_in gap_line.old.items) (bytes_in gap_line.new.items)) }
-    {
-        match message {
-            SessionMessage::Login {
-                sub,
-                user,
-                password,
-            } => {
-                let status = self.end.login_status(sub, user, password);
-                self.end.put(&SessionMessage::LoginReply { status }, reply)
-            }
-            SessionMessage::GapRequest {
-                unit,
-                sequence,
-                count,
-            } => {
-                if !self.end.logged() {
-                    return Ok(());
-                }
-                let range = GapRange {
-                    unit: *unit,
-                    first: *sequence,
-                    count: *count,
-                };
-                self.answer_request(there, range, budget, lookup, reply, gap_line)?;
-                Ok(())
-            }
-            SessionMessage::LoginReply { .. } => Ok(()),
-            SessionMessage::GapReply { .. } => Ok(()),
-            SessionMessage::SpinAvailable { .. } => Ok(()),
-            SessionMessage::SpinRequest { .. } => Ok(()),
-            SessionMessage::SpinReply { .. } => Ok(()),
-            SessionMessage::SpinFinished { .. } => Ok(()),
-        }
-    }
-
-    // Answers what was said.
-    fn answer<L: GapLookup>(
-        &self,
-        there: bool,
-        said: &Said,
-        budget: &mut GapBudget,
-        lookup: &mut L,
-        reply: &mut Vec<u8>,
-        gap_line: &mut DatagramList,
-    ) -> Result<(), OutOfMemory>
-        ensures same { L.still ≡ true → lookup.new ≡ lookup.old }
-        ensures left { (view : View)
-            → L.shows lookup.old view → ShowsLater IsLater (L.shows lookup.new) view }
-        ensures limits { budget.new.limits ≡ budget.old.limits }
-        ensures hears { OnOk result
-            ((spent : Spent) (view : View) → Counted budget.old spent → L.shows lookup.old view
-            → Hears (λ v. said_answer self.now.setup there budget.old.limits self.now.logged
-            spent v said.now) IsLater view (Counted budget.new) (L.shows lookup.new) reply.old.items
-            reply.new.items (bytes_in gap_line.old.items) (bytes_in gap_line.new.items)) }
-    {
-        match said {
-            Said::Message(message) => {
-                self.answer_message(there, message, budget, lookup, reply, gap_line)?;
-                Ok(())
-            }
-            Said::TooShort => Ok(()),
-            Said::Skipped => Ok(()),
-        }
-    }
-
-    // Hears what the stream says next.
-    fn hear<L: GapLookup>(
-        &mut self,
-        there: bool,
-        item: &Heard<'_>,
-        budget: &mut GapBudget,
-        lookup: &mut L,
-        reply: &mut Vec<u8>,
-        gap_line: &mut DatagramList,
-    ) -> Result<(), OutOfMemory>
-        requires { self.old.closed ≡ None }
-        ensures same { L.still ≡ true → lookup.new ≡ lookup.old }
-        ensures left { (view : View)
-            → L.shows lookup.old view → ShowsLater IsLater (L.shows lookup.new) view }
-        ensures closed { OnOk result
-            (self.new.closed ≡ cause_of self.old.setup self.old.logged item.now) }
-        ensures logged { OnOk result
-            (self.new.logged ≡ (self.old.logged || logs_in self.old.setup.role item.now)) }
-        ensures rest { self.new ≡ record self.old { closed = self.new.closed; logged = self.new.logged } }
-        ensures limits { budget.new.limits ≡ budget.old.limits }
-        ensures hears { OnOk result
-            ((spent : Spent) (view : View) → Counted budget.old spent → L.shows lookup.old view
-            → Hears (λ v. grp_answer self.old.setup there budget.old.limits self.old.logged
-            spent v item.now) IsLater view (Counted budget.new) (L.shows lookup.new) reply.old.items
-            reply.new.items (bytes_in gap_line.old.items) (bytes_in gap_line.new.items)) }
-    {
-        let said = self.end.said(item);
-        self.answer(there, &said, budget, lookup, reply, gap_line)?;
-        self.end.judge(item);
-        Ok(())
-    }
-
-    // Hears what the bytes of a reader say, until the session closes, and answers how many bytes
-    // the whole blocks have.
-    fn hear_all<L: GapLookup>(
-        &mut self,
-        there: bool,
-        reader: &BlockReader,
-        budget: &mut GapBudget,
-        lookup: &mut L,
-        reply: &mut Vec<u8>,
-        gap_line: &mut DatagramList,
-    ) -> Result<usize, OutOfMemory>
-        requires { self.old.closed ≡ None }
-        ensures same { L.still ≡ true → lookup.new ≡ lookup.old }
-        ensures left { (view : View)
-            → L.shows lookup.old view → ShowsLater IsLater (L.shows lookup.new) view }
-        ensures through { IfOk result (λ count. IsThrough reader.now.rest count) }
-        ensures closed { OnOk result (self.new.closed ≡ first_cause self.old.setup self.old.logged
-            (reader_items reader.now)) }
-        ensures logged { OnOk result (self.new.closed ≡ None → self.new.logged ≡ (self.old.logged
-            || list_any (logs_in self.old.setup.role) (reader_items reader.now))) }
-        ensures rest { self.new ≡ record self.old { closed = self.new.closed; logged = self.new.logged } }
-        ensures limits { budget.new.limits ≡ budget.old.limits }
-        ensures hears { OnOk result ((spent : Spent) (view : View) → Counted budget.old spent
-            → L.shows lookup.old view → HearsAll self.old.setup (grp_answer self.old.setup
-            there budget.old.limits) IsLater self.old.logged (reader_items reader.now) spent view
-            (Counted budget.new) (L.shows lookup.new) reply.old.items reply.new.items
-            (bytes_in gap_line.old.items) (bytes_in gap_line.new.items)) }
-    {
-        let mut items = Sayings::of(reader);
-        'items: while let Some(item) = items.next_item() {
-            self.hear(there, &item, budget, lookup, reply, gap_line)?;
-            if self.is_closed() {
-                return Ok(items.finish());
-            }
-        }
-        Ok(items.finish())
-    }
-
-    // Hears a piece while the session is open; what it says is put into empty lists.
-    fn hear_piece<L: GapLookup>(
-        &mut self,
-        there: bool,
-        piece: &[u8],
-        budget: &mut GapBudget,
-        lookup: &mut L,
-        said: &mut Vec<u8>,
-        lines: &mut DatagramList,
-    ) -> Result<(), OutOfMemory>
-        requires open { self.old.closed ≡ None }
-        requires no_said { said.old.items ≡ [] }
-        requires no_lines { lines.old.items ≡ [] }
-        ensures same { L.still ≡ true → lookup.new ≡ lookup.old }
-        ensures left { (view : View)
-            → L.shows lookup.old view → ShowsLater IsLater (L.shows lookup.new) view }
-        ensures fed { OnOk result ((es : List (Event Source)) (spent : Spent) (view : View)
-            → ProxyStands self.old es → Counted budget.old spent → L.shows lookup.old view
-            → ProxyFeeds es piece.now self.old self.new there budget.old.limits spent view (Counted
-            budget.new) (L.shows lookup.new) [] said.new.items [] (bytes_in lines.new.items)) }
-        ensures setup { self.new.setup ≡ self.old.setup }
-        ensures count { self.new.inbox.fed ≡ counted (self.old.inbox.fed + length piece.now) }
-        ensures limits { budget.new.limits ≡ budget.old.limits }
-    {
-        let reader = self.end.take(piece)?;
-        let count = self.hear_all(there, &reader, budget, lookup, said, lines)?;
-        self.end.put_back(reader, count);
-        self.end.note_sent(said);
-        Ok(())
-    }
-
     // Feeds from a gap source that is there or not.
     fn feed_from<L: GapLookup>(
         &mut self,
@@ -401,17 +154,23 @@ impl GrpServer {
         if self.end.is_closed() {
             return Ok(());
         }
-        let spent = budget.copy();
         let mut said = Vec::new(self.alloc);
-        let mut lines = DatagramList::make(self.alloc);
-        match self.hear_piece(there, piece, budget, lookup, &mut said, &mut lines) {
-            Ok(()) => match append_said(&said, lines, reply, gap_line) {
-                Ok(()) => return Ok(()),
+        let mut desk = Desk {
+            alloc: self.alloc,
+            there,
+            budget: budget.copy(),
+            lines: DatagramList::make(self.alloc),
+        };
+        match self.end.hear(piece, &mut desk, lookup, &mut said) {
+            Ok(()) => match append_said(&said, desk.lines, reply, gap_line) {
+                Ok(()) => {
+                    *budget = desk.budget;
+                    return Ok(());
+                }
                 Err(_) => {}
             },
             Err(_) => {}
         }
-        *budget = spent;
         self.end.fail();
         Err(OutOfMemory)
     }

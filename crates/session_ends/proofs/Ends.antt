@@ -12,6 +12,7 @@ use Rattle.session_ends.specs.declared.inbox.Heard.{Heard}
 use Rattle.session_ends.specs.declared.role.Role.{Role}
 use Rattle.session_ends.specs.Closing.{Setup, cause_of, first_cause, or_else, logs_in, closes_at, closed_of, logged_in}
 use Rattle.session_ends.specs.Ending.{Ending, Known, EndKnows, known_of}
+use Rattle.session_ends.specs.layers.Driving.{Pieced}
 use Rattle.session_ends.specs.layers.Ticking.{nothing_known, sending}
 use Rattle.session_ends.specs.Events.{Event, Fed, Ticked, Asked, Pumped, Told, fed_of, is_quiet}
 use Rattle.session_ends.specs.Inboxes.{Inboxed, HasTaken}
@@ -118,28 +119,17 @@ takes sends s es piece seen old inbox none items still is empty take =
     let are : stream_items (fed_of es ++ piece) ≡ stream_items (fed_of es) ++ items = t.are ∙ ap (λ (x : List Heard). stream_items (fed_of es) ++ x) (sym (t.appended ∙ ap (λ (l : List Heard). l ++ t.added) empty)) in
     record { open_is = open_is; logged_is = o.logged_is; are = are; new_is = new_are s es piece seen items are; taken = t.stands }
 
--- an end after it has heard all of a piece, against the end before it
-pub record Pieced (old new : Ending) (piece : List ℕ) (items : List Heard) (inbox : Inboxed) (said : List ℕ) : Type 0 where
-  pub setup_is : new.setup ≡ old.setup
-  pub inbox_is : new.inbox ≡ inbox
-  pub closed_is : new.closed ≡ first_cause old.setup old.logged items
-  pub logged_is : new.closed ≡ None → new.logged ≡ (old.logged || list_any (logs_in old.setup.role) items)
-  pub heard_is : new.heard ≡ (old.heard || some_bytes piece)
-  pub silent_is : new.silent ≡ old.silent
-  pub sent_is : new.sent ≡ (old.sent || some_bytes said)
-
 -- it took the piece in, then heard all, then noted what it said
-pub pieced : (old taken heard new : Ending) (piece : List ℕ) (items : List Heard) (said : List ℕ) → taken ≡ record old { inbox = taken.inbox; heard = taken.heard } → taken.heard ≡ (old.heard || some_bytes piece)
+pub pieced : (old taken heard new : Ending) (piece said : List ℕ) (items : List Heard) → taken ≡ record old { inbox = taken.inbox; heard = taken.heard } → taken.heard ≡ (old.heard || some_bytes piece)
     → heard ≡ record taken { closed = heard.closed; logged = heard.logged } → heard.closed ≡ first_cause taken.setup taken.logged items
     → (heard.closed ≡ None → heard.logged ≡ (taken.logged || list_any (logs_in taken.setup.role) items)) → new ≡ record heard { sent = (heard.sent || some_bytes said) }
-    → Pieced old new piece items taken.inbox said
-pieced old taken heard new piece items said first hears then closed logged last =
+    → Pieced old new piece said items
+pieced old taken heard new piece said items first hears then closed logged last =
     let setup : taken.setup ≡ old.setup = ap (λ (v : Ending). v.setup) first in
     let was : taken.logged ≡ old.logged = ap (λ (v : Ending). v.logged) first in
     let shut : new.closed ≡ heard.closed = ap (λ (v : Ending). v.closed) last in
     record {
       setup_is = ap (λ (v : Ending). v.setup) last ∙ ap (λ (v : Ending). v.setup) then ∙ setup;
-      inbox_is = ap (λ (v : Ending). v.inbox) last ∙ ap (λ (v : Ending). v.inbox) then;
       closed_is = shut ∙ closed ∙ ap (λ (s : Setup). first_cause s taken.logged items) setup ∙ ap (λ (b : Bool). first_cause old.setup b items) was;
       logged_is = λ on. ap (λ (v : Ending). v.logged) last ∙ logged (sym shut ∙ on) ∙ ap (λ (b : Bool). b || list_any (logs_in taken.setup.role) items) was ∙ ap (λ (s : Setup). old.logged || list_any (logs_in s.role) items) setup;
       heard_is = ap (λ (v : Ending). v.heard) last ∙ ap (λ (v : Ending). v.heard) then ∙ hears;
@@ -148,16 +138,16 @@ pieced old taken heard new piece items said first hears then closed logged last 
     }
 
 -- so it stands for one event more, at which it sends what it said
-pub fed_end : {X : Type 0} (sends : Event X → List (Event X) → List ℕ) (es : List (Event X)) (piece : List ℕ) (seen : X) (old new : Ending) (items : List Heard) (inbox : Inboxed) (said : List ℕ)
-    → old.closed ≡ None → EndKnows old (known_of sends old.setup es) → Takes old.setup es piece old.logged inbox items → Pieced old new piece items inbox said → said ≡ sends (Fed piece seen) es
+pub fed_end : {X : Type 0} (sends : Event X → List (Event X) → List ℕ) (es : List (Event X)) (piece : List ℕ) (seen : X) (old new : Ending) (items : List Heard) (said : List ℕ)
+    → old.closed ≡ None → EndKnows old (known_of sends old.setup es) → Takes old.setup es piece old.logged new.inbox items → Pieced old new piece said items → said ≡ sends (Fed piece seen) es
     → EndKnows new (known_of sends old.setup (Fed piece seen ∷ es))
-fed_end sends es piece seen old new items inbox said still is t p same =
+fed_end sends es piece seen old new items said still is t p same =
     let s : Setup = old.setup in
     let o = is.still still in
     record {
       closed_is = p.closed_is ∙ ap (λ (b : Bool). first_cause s b items) t.logged_is ∙ sym (closed_on s es piece seen items t.are t.open_is);
       still = λ on. record {
-        inbox_is = subst (λ (i : Inboxed). HasTaken i (fed_of es ++ piece)) (sym p.inbox_is) t.taken;
+        inbox_is = t.taken;
         logged_is = p.logged_is on ∙ ap (λ (b : Bool). b || list_any (logs_in s.role) items) t.logged_is ∙ sym (logged_on s es piece seen items t.are);
         heard_is = p.heard_is ∙ ap (λ (b : Bool). b || some_bytes piece) o.heard_is ∙ not_quiet (some_bytes piece) (is_quiet es) (length piece) (bytes_some piece);
         silent_is = p.silent_is ∙ o.silent_is;

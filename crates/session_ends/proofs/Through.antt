@@ -18,7 +18,7 @@ use Rattle.unit_packets.proofs.Streams.{leads, fault_judged}
 use Rattle.session_ends.specs.declared.closed.CloseCause.TheVariants.{Sequenced}
 use Rattle.session_ends.specs.declared.inbox.Heard.{Heard}
 use Rattle.session_ends.specs.declared.inbox.Heard.TheVariants.{Broken}
-use Rattle.session_ends.specs.Closing.{first_cause, logs_in}
+use Rattle.session_ends.specs.Closing.{Setup, first_cause, logs_in}
 use Rattle.session_ends.specs.Ending.{Ending}
 use Rattle.session_ends.specs.layers.Hearing.{rest_items, reader_items, block_left, follows, IsCut}
 use Rattle.session_ends.specs.layers.Hearing.{IsThrough}
@@ -26,7 +26,8 @@ use Rattle.session_ends.specs.Inboxes.{Inboxed, HasTaken}
 use Rattle.session_ends.specs.layers.Hearing.{TakesPiece}
 use Rattle.session_ends.specs.Items.{closed_at, messages_from, onward, block_size, block_items, stream_items_from, trouble}
 use Rattle.session_ends.specs.Sending.{some_bytes}
-use Rattle.session_ends.proofs.Ends.{Pieced, pieced}
+use Rattle.session_ends.specs.layers.Driving.{Drives, HearsPiece}
+use Rattle.session_ends.proofs.Ends.{pieced}
 use Rattle.session_ends.proofs.Inboxes.{taken_in}
 
 -- ---- One step
@@ -128,28 +129,26 @@ reader_through fed piece old new count taken none t is =
 
 -- an end took a piece in, heard all that its reader says, took the reader back, and noted what it
 -- said
-pub record Went (old new : Ending) (piece : List ℕ) (reader : Reading) (said : List ℕ) : Type 0 where
-  pub takes : (fed : List ℕ) → HasTaken old.inbox fed → fed_fault fed ≡ None → TakesPiece fed piece new.inbox [] (reader_items reader)
-  pub did : Pieced old new piece (reader_items reader) new.inbox said
-
-pub went : (old taken heard back new : Ending) (piece : List ℕ) (reader : Reading) (count : ℕ) (said : List ℕ)
+pub hears_piece : {X : Type 0} (answered : Setup → Bool → Heard → X → X → Type 0) (old taken heard back new : Ending) (piece said : List ℕ) (reader : Reading) (count : ℕ) (from to : X)
     → reader ≡ loaded old.inbox.reading piece → taken.inbox.fed ≡ counted (old.inbox.fed + length piece) → taken.heard ≡ (old.heard || some_bytes piece)
     → taken ≡ record old { inbox = taken.inbox; heard = taken.heard } → IsThrough reader.rest count
     → heard ≡ record taken { closed = heard.closed; logged = heard.logged } → heard.closed ≡ first_cause taken.setup taken.logged (reader_items reader)
     → (heard.closed ≡ None → heard.logged ≡ (taken.logged || list_any (logs_in taken.setup.role) (reader_items reader)))
     → back ≡ record heard { inbox = record { reading = passed reader count; fed = heard.inbox.fed } } → new ≡ record back { sent = (back.sent || some_bytes said) }
-    → Went old new piece reader said
-went old taken heard back new piece reader count said is fed hears first t then closed logged returned last =
+    → Drives answered taken.setup taken.logged (reader_items reader) from to → HearsPiece answered old new piece said from to
+hears_piece answered old taken heard back new piece said reader count from to is fed hears first t then closed logged returned last drives =
     let inbox : new.inbox ≡ record { reading = passed reader count; fed = heard.inbox.fed } = ap (λ (v : Ending). v.inbox) last ∙ ap (λ (v : Ending). v.inbox) returned in
     let number : heard.inbox.fed ≡ counted (old.inbox.fed + length piece) = ap (λ (v : Ending). v.inbox.fed) then ∙ fed in
     let at_last : new.inbox ≡ record { reading = passed (loaded old.inbox.reading piece) count; fed = counted (old.inbox.fed + length piece) } =
     inbox ∙ ap (λ (n : ℕ). record { reading = passed reader count; fed = n }) number ∙ ap (λ (r : Reading). record { reading = passed r count; fed = counted (old.inbox.fed + length piece) }) is in
     record {
+      items = reader_items reader;
       takes = λ before taken_before none.
           subst (λ (r : Reading). TakesPiece before piece new.inbox [] (reader_items r)) (sym is)
           (reader_through before piece old.inbox new.inbox count taken_before none (subst (λ (r : Reading). IsThrough r.rest count) is t) at_last);
-      did = pieced old (record taken { inbox = new.inbox }) (record heard { inbox = new.inbox }) new piece (reader_items reader) said
+      did = pieced old (record taken { inbox = new.inbox }) (record heard { inbox = new.inbox }) new piece said (reader_items reader)
           (ap (λ (v : Ending). record v { inbox = new.inbox }) first) hears (ap (λ (v : Ending). record v { inbox = new.inbox }) then) closed logged
           (last ∙ ap (λ (v : Ending). record v { sent = (v.sent || some_bytes said) }) returned
           ∙ ap (λ (i : Inboxed). record heard { inbox = i; sent = (heard.sent || some_bytes said) }) (sym inbox));
+      drives = subst (λ (v : Ending). Drives answered v.setup v.logged (reader_items reader) from to) first drives;
     }

@@ -5,3 +5,4 @@ pub mod Hearing
 pub mod Showing
 pub mod Laws
 pub mod Hearings
+pub mod Driving

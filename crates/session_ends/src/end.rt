@@ -181,6 +181,13 @@ impl End {
         self.closed.is_some()
     }
 
+    /// The role that it was made with.
+    pub fn role(&self) -> Role
+        ensures { result ≡ self.now.setup.role }
+    {
+        self.role
+    }
+
     /// The unit that it was made with.
     pub fn unit(&self) -> u8
         ensures { result ≡ self.now.setup.unit }

@@ -2,14 +2,15 @@
 //! it at which place, and when it sends a heartbeat. Each clause speaks of all that happened to the
 //! end, bytes in whatever pieces among it, so that other pieces of the same bytes change nothing.
 //!
-//! A server or a link keeps an [`End`]. It takes in a piece with [`End::take`], goes through what
-//! the reader's bytes say by [`Sayings`], answers what [`End::said`] tells while the end is open,
-//! judges it with [`End::judge`], and hands the reader back with [`End::put_back`]. With
-//! [`End::note_sent`] it notes what it sent. A second that passes is [`End::tick`].
+//! A server or a link keeps an [`End`], and hears a piece with [`End::hear`]: each thing that its
+//! bytes say goes to a desk of its own, whose [`Answers`] is the one step in which they differ.
+//! With [`End::note_sent`] it notes what it sent unasked. A second that passes is [`End::tick`].
 #![tactic(auto)]
 
 mod account;
+mod answers;
 mod closed;
+mod driving;
 mod end;
 mod inbox;
 mod lent;
@@ -17,6 +18,7 @@ mod role;
 mod sayings;
 
 pub use crate::account::Account;
+pub use crate::answers::Answers;
 pub use crate::closed::{CloseCause, Closed};
 pub use crate::end::End;
 pub use crate::inbox::Heard;

@@ -7,16 +7,17 @@ use Rattle.session_ends.specs.declared.closed.Closed.{Closed}
 use Rattle.session_ends.specs.declared.inbox.Heard.{Heard}
 use Rattle.session_ends.specs.declared.role.Role.{Role}
 use Rattle.session_ends.specs.declared.role.Said.{Said}
-use Rattle.session_ends.specs.Inboxes.{Inboxed}
 use Rattle.session_ends.specs.Answering.{Answer, no_answer, answers}
-use Rattle.session_ends.specs.layers.Hearings.{Hears, HearsAll}
+use Rattle.session_ends.specs.layers.Hearings.{Hears, HearsAll, Serves}
 use Rattle.session_ends.specs.Closing.{Setup, or_else, closed_of, closes_at, logged_in}
 use Rattle.session_ends.specs.Ending.{Ending, EndKnows, known_of}
 use Rattle.session_ends.specs.layers.Ticking.{nothing_known, known_ticked, sending}
 use Rattle.session_ends.specs.Events.{Event, Fed, Ticked, Pumped, Told}
 use Rattle.session_ends.specs.Sending.{sent_bytes, some_bytes, new_items}
-use Rattle.session_ends.proofs.Ends.{Takes, Pieced, fed_end, shut_end, sent_end, known_none, or_parts}
-use Rattle.session_ends.proofs.Runs.{IsOrder, rises_rest, size_rest}
+use Rattle.session_ends.specs.layers.Driving.{At, HearsPiece}
+use Rattle.session_ends.specs.Saying.{heard_by}
+use Rattle.session_ends.proofs.Ends.{Takes, takes, fed_end, shut_end, sent_end, known_none, or_parts}
+use Rattle.session_ends.proofs.Runs.{IsOrder, rises_rest, size_rest, served_all}
 use Rattle.pitch_model.specs.Advertising.{newest_of}
 use Rattle.spin_server.specs.Served.{Served}
 use Rattle.spin_server.specs.layers.Looking.{ServedLater}
@@ -102,42 +103,37 @@ pub hears_early : (s : Setup) (logged : Bool) (spin : Option Spin) (sequence : �
 hears_early s logged spin sequence view knows shown reply off k v =
     hears_none (λ (w : Served). spin_message_answer s logged spin w (SpinRequest sequence)) spin view knows shown reply (λ w. ap (λ (b : Bool). spin_message_answer s b spin w (SpinRequest sequence)) off) k v
 
-pub hears_said : (s : Setup) (logged : Bool) (spin : Option Spin) (view : Served) (said known : Said) (knows : Option Spin → Type 0) (shown : Served → Type 0) (reply reply' : List ℕ)
-    → said ≡ known → Hears (λ (v : Served). spin_said_answer s logged spin v known) ServedLater view knows shown reply reply' [] []
-    → Hears (λ (v : Served). spin_said_answer s logged spin v said) ServedLater view knows shown reply reply' [] []
-hears_said s logged spin view said known knows shown reply reply' is h =
-    subst (λ (x : Said). Hears (λ (v : Served). spin_said_answer s logged spin v x) ServedLater view knows shown reply reply' [] []) (sym is) h
-
-pub hears_at : (s' s : Setup) (logged : Bool) (spin : Option Spin) (view : Served) (item : Heard) (knows : Option Spin → Type 0) (shown : Served → Type 0) (reply reply' : List ℕ)
-    → s' ≡ s → Hears (λ (v : Served). spin_answer s' logged spin v item) ServedLater view knows shown reply reply' [] []
+-- what was said is what the stream says next
+pub hears_item : (s : Setup) (logged : Bool) (spin : Option Spin) (view : Served) (said : Said) (item : Heard) (knows : Option Spin → Type 0) (shown : Served → Type 0) (reply reply' : List ℕ)
+    → said ≡ heard_by s.role item → Hears (λ (v : Served). spin_said_answer s logged spin v said) ServedLater view knows shown reply reply' [] []
     → Hears (λ (v : Served). spin_answer s logged spin v item) ServedLater view knows shown reply reply' [] []
-hears_at s' s logged spin view item knows shown reply reply' p h =
-    subst (λ (x : Setup). Hears (λ (v : Served). spin_answer x logged spin v item) ServedLater view knows shown reply reply' [] []) p h
+hears_item s logged spin view said item knows shown reply reply' is h =
+    subst (λ (x : Said). Hears (λ (v : Served). spin_said_answer s logged spin v x) ServedLater view knows shown reply reply' [] []) is h
 
-pub hears_kept : (s' s : Setup) (logged : Bool) (spin' spin : Option Spin) (view : Served) (item : Heard) (knows : Option Spin → Type 0) (shown : Served → Type 0) (reply reply' : List ℕ)
-    → s' ≡ s → spin' ≡ spin → Hears (λ (v : Served). spin_answer s' logged spin' v item) ServedLater view knows shown reply reply' [] []
-    → Hears (λ (v : Served). spin_answer s logged spin v item) ServedLater view knows shown reply reply' [] []
-hears_kept s' s logged spin' spin view item knows shown reply reply' p q h =
-    hears_at s' s logged spin view item knows shown reply reply' p (subst (λ (o : Option Spin). Hears (λ (v : Served). spin_answer s' logged o v item) ServedLater view knows shown reply reply' [] []) q h)
+-- the same of a spin that is known otherwise
+pub hears_kept : (s : Setup) (logged : Bool) (spin' spin : Option Spin) (view : Served) (item : Heard) (knows : Option Spin → Type 0) (shown : Served → Type 0) (reply reply' : List ℕ)
+    → spin' ≡ spin → Hears (λ (v : Served). spin_answer s logged spin v item) ServedLater view knows shown reply reply' [] [] → Hears (λ (v : Served). spin_answer s logged spin' v item) ServedLater view knows shown reply reply' [] []
+hears_kept s logged spin' spin view item knows shown reply reply' is h =
+    subst (λ (o : Option Spin). Hears (λ (v : Served). spin_answer s logged o v item) ServedLater view knows shown reply reply' [] []) (sym is) h
 
 -- a piece was heard while the end was open
-pub fed_serves : (es : List (Event (List Served))) (piece : List ℕ) (old new : Serving) (items : List Heard) (inbox : Inboxed) (setup : Setup) (logged : Bool) (spin after : Option Spin) (view : Served) (shown : Served → Type 0) (reply reply' : List ℕ)
-    → old.end.closed ≡ None → SpinStands old es → reply ≡ [] → Takes old.end.setup es piece old.end.logged inbox items → Pieced old.end new.end piece items inbox reply'
-    → setup ≡ old.end.setup → logged ≡ old.end.logged → spin ≡ old.spin → after ≡ new.spin → HearsAll setup (spin_answer setup) ServedLater logged items spin view (λ (x : Option Spin). x ≡ after) shown reply reply' [] []
-    → SpinFeeds es piece old new view shown [] reply'
-fed_serves es piece old new items inbox setup logged spin after view shown reply reply' still stands none_said t p same was kept keeps heard =
+pub fed_serves : {D L : Type 0} (spin : D → Option Spin) (shows : L → Served → Type 0) (es : List (Event (List Served))) (piece said : List ℕ) (old new : Serving) (from to : At D L) (view : Served)
+    → old.end.closed ≡ None → SpinStands old es → from.said ≡ [] → to.said ≡ said → old.spin ≡ spin from.desk → new.spin ≡ spin to.desk
+    → HearsPiece (Serves (λ (desk : D). tt) (λ (terms : Unit {0}) (s : Setup). spin_answer s) (λ (desk : D) (o : Option Spin). o ≡ spin desk) (λ (desk : D). []) shows ServedLater) old.end new.end piece said from to
+    → shows from.source view → SpinFeeds es piece old new view (shows to.source) [] said
+fed_serves {D} spin shows es piece said old new from to view still stands none_said said_is kept keeps w shown =
     let s : Setup = old.end.setup in
-    let spin_is : spin ≡ running_spin s es = kept ∙ stands.spin_is still in
-    let h : HearsAll s (spin_answer s) ServedLater old.end.logged items (running_spin s es) view (λ (x : Option Spin). x ≡ after) shown reply reply' [] [] =
-    subst (λ (x : Setup). HearsAll x (spin_answer x) ServedLater old.end.logged items (running_spin s es) view (λ (x : Option Spin). x ≡ after) shown reply reply' [] []) same
-    (subst (λ (b : Bool). HearsAll setup (spin_answer setup) ServedLater b items (running_spin s es) view (λ (x : Option Spin). x ≡ after) shown reply reply' [] []) was
-    (subst (λ (o : Option Spin). HearsAll setup (spin_answer setup) ServedLater logged items o view (λ (x : Option Spin). x ≡ after) shown reply reply' [] []) spin_is heard)) in
-    let a : Answer (Option Spin) = answers s (spin_answer s) old.end.logged (running_spin s es) h.views items in
-    let said : spin_fed_answer s es piece h.views (running_spin s es) ≡ a =
-    ap (λ (o : Option Closed). cond (is_some o) (no_answer (running_spin s es)) (answers s (spin_answer s) (logged_in s.role es) (running_spin s es) h.views (new_items es piece))) t.open_is
-    ∙ ap (λ (x : List Heard). answers s (spin_answer s) (logged_in s.role es) (running_spin s es) h.views x) t.new_is
-    ∙ ap (λ (b : Bool). answers s (spin_answer s) b (running_spin s es) h.views items) (sym t.logged_is) in
-    let bytes : reply' ≡ (spin_fed_answer s es piece h.views (running_spin s es)).reply = h.replied ∙ ap (λ (x : List ℕ). x ++ a.reply) none_said ∙ ap (λ (x : Answer (Option Spin)). x.reply) (sym said) in
+    let before : Option Spin = running_spin s es in
+    let h : HearsAll s (spin_answer s) ServedLater old.end.logged w.items before view (λ (o : Option Spin). o ≡ spin to.desk) (shows to.source) from.said to.said [] [] =
+    served_all (λ (desk : D). tt) (λ (terms : Unit {0}) (s : Setup). spin_answer s) (λ (desk : D) (o : Option Spin). o ≡ spin desk) (λ (desk : D). []) shows ServedLater later_order s old.end.logged w.items from to w.drives before view
+    (sym (stands.spin_is still) ∙ kept) shown in
+    let t : Takes s es piece old.end.logged new.end.inbox w.items = takes (spin_sends s) s es piece h.views old.end new.end.inbox [] w.items still stands.end_is refl w.takes in
+    let a : Answer (Option Spin) = answers s (spin_answer s) old.end.logged before h.views w.items in
+    let answered : spin_fed_answer s es piece h.views before ≡ a =
+    ap (λ (o : Option Closed). cond (is_some o) (no_answer before) (answers s (spin_answer s) (logged_in s.role es) before h.views (new_items es piece))) t.open_is
+    ∙ ap (λ (x : List Heard). answers s (spin_answer s) (logged_in s.role es) before h.views x) t.new_is
+    ∙ ap (λ (b : Bool). answers s (spin_answer s) b before h.views w.items) (sym t.logged_is) in
+    let bytes : said ≡ (spin_fed_answer s es piece h.views before).reply = sym said_is ∙ h.replied ∙ ap (λ (x : List ℕ). x ++ a.reply) none_said ∙ ap (λ (x : Answer (Option Spin)). x.reply) (sym answered) in
     record {
       views = h.views;
       each = h.each ∙ ap length (sym t.new_is);
@@ -145,8 +141,8 @@ fed_serves es piece old new items inbox setup logged spin after view shown reply
       rises = h.rises;
       shows = h.shows;
       stands = record {
-        end_is = subst (λ (x : Setup). EndKnows new.end (known_of (spin_sends x) x (Fed piece h.views ∷ es))) (sym p.setup_is) (fed_end (spin_sends s) es piece h.views old.end new.end items inbox reply' still stands.end_is t p bytes);
-        spin_is = λ on. sym keeps ∙ sym h.state_is ∙ ap (λ (x : Answer (Option Spin)). x.knows) (sym said) ∙ ap (λ (x : Setup). running_spin x (Fed piece h.views ∷ es)) (sym p.setup_is);
+        end_is = subst (λ (x : Setup). EndKnows new.end (known_of (spin_sends x) x (Fed piece h.views ∷ es))) (sym w.did.setup_is) (fed_end (spin_sends s) es piece h.views old.end new.end w.items said still stands.end_is t w.did bytes);
+        spin_is = λ on. keeps ∙ sym h.state_is ∙ ap (λ (x : Answer (Option Spin)). x.knows) (sym answered) ∙ ap (λ (x : Setup). running_spin x (Fed piece h.views ∷ es)) (sym w.did.setup_is);
       };
       replied = bytes;
     }

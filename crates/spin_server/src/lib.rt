@@ -8,6 +8,7 @@
 //! [`SpinServer::tick`].
 #![tactic(auto)]
 
+mod desk;
 mod laws;
 mod lookup;
 mod server;

@@ -1,39 +1,31 @@
 //! The Spin Server's side of a session: logins, spin requests, images block by block, ticks.
 
-ghost use Rattle.std.specs.Prelude.{◌≡◌, ◌<◌, ℕ, ◌||◌, Bool, true, false, List, [], ◌∷◌, ◌++◌, ◌+◌};
-ghost use Rattle.std.specs.Prelude.{length, OnOk, OnErr, IsOk, IfOk, IfSome, None, Some, is_some};
-ghost use Rattle.std.specs.Prelude.{is_none, if◌then◌else◌};
-ghost use Rattle.std.specs.List.{list_any};
-ghost use Rattle.pitch_messages.specs.declared.session.SessionMessage.TheVariants.{SpinReply};
+ghost use Rattle.std.specs.Prelude.{◌≡◌, ◌<◌, true, List, [], ◌∷◌, ◌++◌, ◌+◌, length, OnOk, OnErr};
+ghost use Rattle.std.specs.Prelude.{IsOk, IfOk, IfSome, Some, is_some};
 ghost use Rattle.session_ends.specs.declared.closed.CloseCause.TheVariants.{Memory};
 ghost use Rattle.session_ends.specs.declared.role.Role.TheVariants.{SpinServer as SpinRole};
-ghost use Rattle.session_ends.specs.layers.Hearings.{Hears, HearsAll};
-ghost use Rattle.session_ends.specs.Closing.{cause_of, closed_of, first_cause, logs_in};
-ghost use Rattle.session_ends.specs.Closing.{login_status};
+ghost use Rattle.session_ends.specs.Closing.{closed_of};
 ghost use Rattle.session_ends.specs.Events.{Event, Ticked, Pumped, Told};
 ghost use Rattle.session_ends.specs.layers.Happening.{Happens, OfEvents};
-ghost use Rattle.session_ends.specs.layers.Hearing.{reader_items, IsThrough};
 ghost use Rattle.session_ends.specs.Items.{closed_at};
-ghost use Rattle.session_ends.specs.Sending.{sent_bytes, sent_at_tick};
+ghost use Rattle.session_ends.specs.Sending.{sent_at_tick};
 ghost use Rattle.session_ends.specs.layers.Showing.{ShowsLater};
 ghost use Rattle.spin_server.specs.Served.{Served};
 ghost use Rattle.spin_server.specs.layers.Looking.{ServedLater};
 ghost use Rattle.unit_packets.specs.Causes.{counted};
-ghost use Rattle.spin_server.specs.Serving.{pump_bytes, pumped, blocks_left, available_bytes};
-ghost use Rattle.spin_server.specs.Serving.{spin_login_answer, spin_request_answer};
-ghost use Rattle.spin_server.specs.Serving.{spin_message_answer, spin_said_answer, spin_answer};
+ghost use Rattle.spin_server.specs.Serving.{pump_bytes, pumped, blocks_left};
 ghost use Rattle.spin_server.specs.Serving.{spin_sends, runs, SpinStands};
 ghost use Rattle.spin_server.specs.layers.Feeding.{SpinFeeds};
 
-use crate::lookup::{ImageLookup, Imaged};
+use crate::desk::Desk;
+use crate::lookup::ImageLookup;
 use crate::spin::Spin;
 use pitch_fields::OutOfMemory;
-use pitch_messages::RawList;
 use pitch_messages::session::SessionMessage;
-use session_ends::{Account, Closed, End, Heard, Role, Said, Sayings};
+use session_ends::{Account, Closed, End, Role};
 use std::alloc::Global;
 use std::marker::Model;
-use unit_packets::BlockReader;
+use std::mem::replace;
 
 /// The Spin Server's end of a session.
 #[derive(Drop)]
@@ -75,13 +67,6 @@ fn put_next(end: &End, spin: &Spin, reply: &mut Vec<u8>) -> Result<bool, OutOfMe
     }
 }
 
-// How a request is answered while a spin runs: `S`, or `O` where its image is not served.
-fn running_status(served: bool) -> u8
-    ensures { result ≡ (if served then 83 else 79) }
-{
-    if served { b'S' } else { b'O' }
-}
-
 impl SpinServer {
     /// The end of a session for a unit, to which these accounts may log in, unless the session is
     /// in use elsewhere. It is not logged in. It takes no memory.
@@ -112,275 +97,6 @@ impl SpinServer {
         ensures { result ≡ is_some self.now.end.closed }
     {
         self.end.is_closed()
-    }
-
-    // Appends the newest sequence that is advertised, where there is one.
-    fn put_available(&self, newest: Option<u32>, reply: &mut Vec<u8>) -> Result<(), OutOfMemory>
-        ensures { OnOk result
-            (reply.new.items ≡ reply.old.items ++ available_bytes self.now.end.setup newest) }
-    {
-        match newest {
-            None => Ok(()),
-            Some(sequence) => self
-                .end
-                .put(&SessionMessage::SpinAvailable { sequence }, reply),
-        }
-    }
-
-    // Answers a login: with its status, and the newest sequence after an accepted one.
-    fn answer_login<L: ImageLookup>(
-        &self,
-        sub: &[u8; 4],
-        user: &[u8; 4],
-        password: &[u8; 10],
-        lookup: &mut L,
-        reply: &mut Vec<u8>,
-    ) -> Result<(), OutOfMemory>
-        ensures same { L.still ≡ true → lookup.new ≡ lookup.old }
-        ensures left { (view : Served)
-            → L.shows lookup.old view → ShowsLater ServedLater (L.shows lookup.new) view }
-        // Of every view that the look-up shows before: it is answered right at a view that it shows
-        // after, which is no earlier.
-        ensures hears { OnOk result ((view : Served)
-            → L.shows lookup.old view → Hears (λ v. spin_login_answer self.now.end.setup
-            (login_status self.now.end.setup self.now.end.logged sub.now user.now password.now)
-            v self.now.spin) ServedLater view (λ spin. spin ≡ self.now.spin)
-            (L.shows lookup.new) reply.old.items reply.new.items [] []) }
-    {
-        let status = self.end.login_status(sub, user, password);
-        self.end.put(&SessionMessage::LoginReply { status }, reply)?;
-        if status != b'A' {
-            return Ok(());
-        }
-        let newest = lookup.newest();
-        self.put_available(newest, reply)?;
-        Ok(())
-    }
-
-    // Appends the reply to a spin request, with the number of orders of its image.
-    fn put_status(
-        &self,
-        sequence: u32,
-        orders: u32,
-        status: u8,
-        reply: &mut Vec<u8>,
-    ) -> Result<(), OutOfMemory>
-        ensures { OnOk result (reply.new.items ≡ reply.old.items
-            ++ sent_bytes self.now.end.setup (SpinReply sequence orders status)) }
-    {
-        self.end.put(
-            &SessionMessage::SpinReply {
-                sequence,
-                orders,
-                status,
-            },
-            reply,
-        )
-    }
-
-    // Answers a spin request after an accepted login.
-    fn answer_request<L: ImageLookup>(
-        &mut self,
-        sequence: u32,
-        lookup: &mut L,
-        reply: &mut Vec<u8>,
-    ) -> Result<(), OutOfMemory>
-        ensures same { L.still ≡ true → lookup.new ≡ lookup.old }
-        ensures left { (view : Served)
-            → L.shows lookup.old view → ShowsLater ServedLater (L.shows lookup.new) view }
-        ensures end { self.new.end ≡ self.old.end }
-        // Of every view that the look-up shows before: it is answered right at a view that it shows
-        // after, which is no earlier.
-        ensures hears { OnOk result ((view : Served) → L.shows lookup.old view
-            → Hears (λ v. spin_request_answer self.old.end.setup v sequence self.old.spin)
-            ServedLater view (λ spin. spin ≡ self.new.spin)
-            (L.shows lookup.new) reply.old.items reply.new.items [] []) }
-    {
-        if self.spin.is_some() {
-            let status = running_status(lookup.has_image(sequence));
-            self.put_status(sequence, 0, status, reply)?;
-            return Ok(());
-        }
-        let mut image = RawList::make(self.alloc);
-        match lookup.image(sequence, &mut image)? {
-            Imaged::NotAdvertised => {
-                self.put_status(sequence, 0, b'O', reply)?;
-                Ok(())
-            }
-            Imaged::Image { orders } => {
-                let spin = Spin::make(self.alloc, self.end.header_unit(), sequence, image.raws())?;
-                self.put_status(sequence, orders, b'A', reply)?;
-                self.spin = Some(spin);
-                Ok(())
-            }
-        }
-    }
-
-    // Answers a message that the end reads.
-    fn answer_message<L: ImageLookup>(
-        &mut self,
-        message: &SessionMessage,
-        lookup: &mut L,
-        reply: &mut Vec<u8>,
-    ) -> Result<(), OutOfMemory>
-        ensures same { L.still ≡ true → lookup.new ≡ lookup.old }
-        ensures left { (view : Served)
-            → L.shows lookup.old view → ShowsLater ServedLater (L.shows lookup.new) view }
-        ensures end { self.new.end ≡ self.old.end }
-        // Of every view that the look-up shows before: it is answered right at a view that it shows
-        // after, which is no earlier.
-        ensures hears { OnOk result ((view : Served) → L.shows lookup.old view
-            → Hears (λ v. spin_message_answer self.old.end.setup self.old.end.logged
-            self.old.spin v message.now) ServedLater view (λ spin. spin ≡ self.new.spin)
-            (L.shows lookup.new) reply.old.items reply.new.items [] []) }
-    {
-        match message {
-            SessionMessage::Login {
-                sub,
-                user,
-                password,
-            } => {
-                self.answer_login(sub, user, password, lookup, reply)?;
-                Ok(())
-            }
-            SessionMessage::SpinRequest { sequence } => {
-                if !self.end.logged() {
-                    return Ok(());
-                }
-                self.answer_request(*sequence, lookup, reply)?;
-                Ok(())
-            }
-            SessionMessage::LoginReply { .. } => Ok(()),
-            SessionMessage::GapRequest { .. } => Ok(()),
-            SessionMessage::GapReply { .. } => Ok(()),
-            SessionMessage::SpinAvailable { .. } => Ok(()),
-            SessionMessage::SpinReply { .. } => Ok(()),
-            SessionMessage::SpinFinished { .. } => Ok(()),
-        }
-    }
-
-    // Answers what was said.
-    fn answer<L: ImageLookup>(
-        &mut self,
-        said: &Said,
-        lookup: &mut L,
-        reply: &mut Vec<u8>,
-    ) -> Result<(), OutOfMemory>
-        ensures same { L.still ≡ true → lookup.new ≡ lookup.old }
-        ensures left { (view : Served)
-            → L.shows lookup.old view → ShowsLater ServedLater (L.shows lookup.new) view }
-        ensures end { self.new.end ≡ self.old.end }
-        // Of every view that the look-up shows before: it is answered right at a view that it shows
-        // after, which is no earlier.
-        ensures hears { OnOk result ((view : Served) → L.shows lookup.old view → Hears
-            (λ v. spin_said_answer self.old.end.setup self.old.end.logged self.old.spin v said.now)
-            ServedLater view (λ spin. spin ≡ self.new.spin)
-            (L.shows lookup.new) reply.old.items reply.new.items [] []) }
-    {
-        match said {
-            Said::Message(message) => {
-                self.answer_message(message, lookup, reply)?;
-                Ok(())
-            }
-            Said::TooShort => Ok(()),
-            Said::Skipped => Ok(()),
-        }
-    }
-
-    // Hears what the stream says next.
-    fn hear<L: ImageLookup>(
-        &mut self,
-        item: &Heard<'_>,
-        lookup: &mut L,
-        reply: &mut Vec<u8>,
-    ) -> Result<(), OutOfMemory>
-        requires { self.old.end.closed ≡ None }
-        ensures same { L.still ≡ true → lookup.new ≡ lookup.old }
-        ensures left { (view : Served)
-            → L.shows lookup.old view → ShowsLater ServedLater (L.shows lookup.new) view }
-        ensures closed { OnOk result
-            (self.new.end.closed ≡ cause_of self.old.end.setup self.old.end.logged item.now) }
-        ensures logged { OnOk result (self.new.end.logged
-            ≡ (self.old.end.logged || logs_in self.old.end.setup.role item.now)) }
-        ensures rest { self.new.end
-            ≡ record self.old.end { closed = self.new.end.closed; logged = self.new.end.logged } }
-        // Of every view that the look-up shows before: it is answered right at a view that it shows
-        // after, which is no earlier.
-        ensures hears { OnOk result ((view : Served) → L.shows lookup.old view → Hears
-            (λ v. spin_answer self.old.end.setup self.old.end.logged self.old.spin v item.now)
-            ServedLater view (λ spin. spin ≡ self.new.spin)
-            (L.shows lookup.new) reply.old.items reply.new.items [] []) }
-    {
-        let said = self.end.said(item);
-        self.answer(&said, lookup, reply)?;
-        self.end.judge(item);
-        Ok(())
-    }
-
-    // Hears what the bytes of a reader say, until the session closes, and answers how many bytes
-    // the whole blocks have.
-    fn hear_all<L: ImageLookup>(
-        &mut self,
-        reader: &BlockReader,
-        lookup: &mut L,
-        reply: &mut Vec<u8>,
-    ) -> Result<usize, OutOfMemory>
-        requires { self.old.end.closed ≡ None }
-        ensures same { L.still ≡ true → lookup.new ≡ lookup.old }
-        ensures left { (view : Served)
-            → L.shows lookup.old view → ShowsLater ServedLater (L.shows lookup.new) view }
-        ensures through { IfOk result (λ count. IsThrough reader.now.rest count) }
-        ensures closed { OnOk result (self.new.end.closed ≡ first_cause
-            self.old.end.setup self.old.end.logged (reader_items reader.now)) }
-        ensures logged { OnOk result
-            (self.new.end.closed ≡ None → self.new.end.logged ≡ (self.old.end.logged || list_any
-            (logs_in self.old.end.setup.role) (reader_items reader.now))) }
-        ensures rest { self.new.end
-            ≡ record self.old.end { closed = self.new.end.closed; logged = self.new.end.logged } }
-        // Of every view that the look-up shows before: each message is answered right at its view,
-        // and these rise from that before to one that it shows after.
-        ensures hears { OnOk result ((view : Served) → L.shows lookup.old view
-            → HearsAll self.old.end.setup (spin_answer self.old.end.setup) ServedLater
-            self.old.end.logged (reader_items reader.now) self.old.spin view (λ spin. spin
-            ≡ self.new.spin) (L.shows lookup.new) reply.old.items reply.new.items [] []) }
-    {
-        let mut items = Sayings::of(reader);
-        'items: while let Some(item) = items.next_item() {
-            self.hear(&item, lookup, reply)?;
-            if self.is_closed() {
-                return Ok(items.finish());
-            }
-        }
-        Ok(items.finish())
-    }
-
-    // Hears a piece while the session is open, and puts what it says into an empty list.
-    fn hear_piece<L: ImageLookup>(
-        &mut self,
-        piece: &[u8],
-        lookup: &mut L,
-        said: &mut Vec<u8>,
-    ) -> Result<(), OutOfMemory>
-        requires open { self.old.end.closed ≡ None }
-        requires no_said { said.old.items ≡ [] }
-        ensures same { L.still ≡ true → lookup.new ≡ lookup.old }
-        ensures left { (view : Served)
-            → L.shows lookup.old view → ShowsLater ServedLater (L.shows lookup.new) view }
-        // Of everything that happened before, and of every view that the look-up shows before: the
-        // piece was fed too, each message was answered at its view, and these rise to one that the
-        // look-up shows after.
-        ensures fed { OnOk result ((es : List (Event (List Served))) (view : Served)
-            → SpinStands self.old es → L.shows lookup.old view → SpinFeeds
-            es piece.now self.old self.new view (L.shows lookup.new) [] said.new.items) }
-        ensures setup { self.new.end.setup ≡ self.old.end.setup }
-        ensures count { self.new.end.inbox.fed
-            ≡ counted (self.old.end.inbox.fed + length piece.now) }
-    {
-        let reader = self.end.take(piece)?;
-        let count = self.hear_all(&reader, lookup, said)?;
-        self.end.put_back(reader, count);
-        self.end.note_sent(said);
-        Ok(())
     }
 
     /// Takes the next piece of the stream, and answers each message that is whole now: logins and
@@ -418,9 +134,16 @@ impl SpinServer {
             return Ok(());
         }
         let mut said = Vec::new(self.alloc);
-        match self.hear_piece(piece, lookup, &mut said) {
+        let mut desk = Desk {
+            alloc: self.alloc,
+            spin: replace(&mut self.spin, None),
+        };
+        match self.end.hear(piece, &mut desk, lookup, &mut said) {
             Ok(()) => match reply.extend_from_slice(&said) {
-                Ok(()) => return Ok(()),
+                Ok(()) => {
+                    self.spin = desk.spin;
+                    return Ok(());
+                }
                 Err(_) => {}
             },
             Err(_) => {}

@@ -3,6 +3,7 @@ use Rattle.std.specs.Prelude.{◌≡◌, ℕ, Bool, List, [], ◌∷◌, ◌++�
 use Rattle.session_ends.specs.declared.inbox.Heard.{Heard}
 use Rattle.session_ends.specs.Closing.{Setup}
 use Rattle.session_ends.specs.Answering.{Answer, Answerer, answers}
+use Rattle.session_ends.specs.layers.Driving.{At}
 
 -- ---- What a call does
 -- views that come one after another, from the first up to the last
@@ -34,3 +35,14 @@ pub record HearsAll {S V : Type 0} (s : Setup) (one : Answerer S V)
   pub state_is : knows (answers s one logged state views items).knows
   pub replied : reply' ≡ reply ++ (answers s one logged state views items).reply
   pub lined : lines' ≡ lines ++ (answers s one logged state views items).lines
+
+-- ---- What a server's desk does
+-- it answers by terms that stay, whatever is known and can be seen before
+pub record Serves {D L Terms S V : Type 0} (terms : D → Terms) (one : Terms → Setup → Answerer S V)
+    (knows : D → S → Type 0) (lines : D → List (List ℕ)) (shows : L → V → Type 0)
+    (Later : V → V → Type 0)
+    (s : Setup) (logged : Bool) (item : Heard) (from to : At D L) : Type 0 where
+  pub same : terms to.desk ≡ terms from.desk
+  pub hears : (state : S) (view : V) → knows from.desk state → shows from.source view
+      → Hears (λ v. one (terms from.desk) s logged state v item) Later view (knows to.desk)
+      (shows to.source) from.said to.said (lines from.desk) (lines to.desk)

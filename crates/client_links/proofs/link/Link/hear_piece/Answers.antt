@@ -1,26 +1,22 @@
-use Rattle.std.proofs.Common.{◌++◌, List, map, ap, ◌∙◌}
-use Rattle.heard_items.specs.declared.item.Item.{Item}
-use Rattle.session_ends.specs.declared.role.Role.{Role}
-use Rattle.session_ends.specs.layers.Hearing.{reader_items}
-use Rattle.client_links.specs.Telling.{without_spare, run_of, tells}
-use Rattle.client_links.proofs.Linked.{heard_piece}
+use Rattle.std.proofs.Common.{◌≡◌, ◌++◌, None, map, ap, ◌∙◌, sym, subst, refl}
+use Rattle.session_ends.specs.Closing.{Setup}
+use Rattle.session_ends.specs.Ending.{Ending}
+use Rattle.client_links.specs.Linking.{LinkStands, link_tells}
+use Rattle.client_links.specs.Telling.{without_spare, run_of}
+use Rattle.client_links.proofs.Linked.{link_fed}
 use Rattle.client_links.proofs.link.Link.hear_piece.Goals as goal
 
 pub returns-clause-stands : goal.returns-clause-stands
 returns-clause-stands g c = λ es stands.
-    (heard_piece es c.args.piece.now c.args.self.now _ c.take.new.self c.hear_all.new.self _ c.put_back.new.self c.in_ok-reader.reader c.in_ok-count.count c.self.view_is c.self-2.view_is c.requires.open stands
-    c.in_ok-reader.ensures.reader c.in_ok-reader.ensures.fed c.in_ok-reader.ensures.heard c.in_ok-reader.ensures.rest c.in_ok-count.ensures.through c.in_ok-count.ensures.rest
-    c.in_ok-count.ensures.closed c.in_ok-count.ensures.logged c.put_back.ensures).stands
+    let still : c.self.inside.end.closed ≡ None = ap (λ (v : Ending). v.closed) c.self.view_is ∙ c.requires in
+    let before : LinkStands c.self.inside.end es = subst (λ (v : Ending). LinkStands v es) (sym c.self.view_is) stands in
+    (link_fed _ _ es c.args.piece.now c.hear.new.said.items c.self.inside.end c.hear.new.self _ _ still before c.new-said.ensures.items refl (ap (map without_spare) c.new.ensures.items) c.make.ensures c.in_ok-hear.ensures.heard).0
 
 pub returns-clause-tells : goal.returns-clause-tells
 returns-clause-tells g c = λ es stands.
-    let taken = c.take.new.self in
-    let items = reader_items c.in_ok-reader.reader in
-    let did = heard_piece es c.args.piece.now c.args.self.now _ taken c.hear_all.new.self _ c.put_back.new.self c.in_ok-reader.reader c.in_ok-count.count c.self.view_is c.self-2.view_is c.requires.open stands
-    c.in_ok-reader.ensures.reader c.in_ok-reader.ensures.fed c.in_ok-reader.ensures.heard c.in_ok-reader.ensures.rest c.in_ok-count.ensures.through c.in_ok-count.ensures.rest
-    c.in_ok-count.ensures.closed c.in_ok-count.ensures.logged c.put_back.ensures in
+    let still : c.self.inside.end.closed ≡ None = ap (λ (v : Ending). v.closed) c.self.view_is ∙ c.requires in
+    let before : LinkStands c.self.inside.end es = subst (λ (v : Ending). LinkStands v es) (sym c.self.view_is) stands in
     c.in_ok-put_run.ensures.told
-    ∙ ap (λ (r : Role). map without_spare c.hear_all.new.told.items ++ run_of r c.hear_all.new.run.items) did.role_is
-    ∙ c.in_ok-count.ensures.tells
-    ∙ ap (λ (l : List Item). l ++ tells taken.setup taken.logged items) (ap (map without_spare) c.requires.none_told)
-    ∙ did.told
+    ∙ ap (λ (s : Setup). map without_spare c.hear.new.desk.told.items ++ run_of s.role c.hear.new.desk.run.items) c.in_ok-hear.ensures.setup
+    ∙ (link_fed _ _ es c.args.piece.now c.hear.new.said.items c.self.inside.end c.hear.new.self _ _ still before c.new-said.ensures.items refl (ap (map without_spare) c.new.ensures.items) c.make.ensures c.in_ok-hear.ensures.heard).1
+    ∙ ap (λ (v : Ending). link_tells v.setup es c.args.piece.now) c.self.view_is

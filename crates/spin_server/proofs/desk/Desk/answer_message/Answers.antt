@@ -5,13 +5,13 @@ use Rattle.spin_server.specs.Served.{Served}
 use Rattle.spin_server.specs.layers.Looking.{ServedLater}
 use Rattle.spin_server.specs.Serving.{spin_message_answer}
 use Rattle.spin_server.proofs.Serves.{later_order, hears_none, hears_as, hears_early}
-use Rattle.spin_server.proofs.server.SpinServer.answer_message.Goals as goal
+use Rattle.spin_server.proofs.desk.Desk.answer_message.Goals as goal
 
 pub returns-then-not-logged-clause-hears : goal.returns-then-not-logged-clause-hears
 returns-then-not-logged-clause-hears g c = λ view shows.
-    let off : c.args.self.now.end.logged ≡ false = search rules in
-    hears_as (λ (m : SessionMessage) (v : Served). spin_message_answer c.args.self.now.end.setup c.args.self.now.end.logged c.args.self.now.spin v m) c.args.message.now _ view _ _ _ _ c.in-SpinRequest.is
-    (hears_early c.args.self.now.end.setup _ c.args.self.now.spin _ view _ _ _ off refl shows)
+    let off : c.args.end.now.logged ≡ false = search rules in
+    hears_as (λ (m : SessionMessage) (v : Served). spin_message_answer c.args.end.now.setup c.args.end.now.logged c.args.self.now.spin v m) c.args.message.now _ view _ _ _ _ c.in-SpinRequest.is
+    (hears_early c.args.end.now.setup _ c.args.self.now.spin _ view _ _ _ off refl shows)
 
 pub returns-in-LoginReply-clause-hears : goal.returns-in-LoginReply-clause-hears
 returns-in-LoginReply-clause-hears g c = λ view shows. rw c.in-LoginReply.is (hears_none _ c.args.self.now.spin view _ _ _ (λ w. refl) refl shows)
