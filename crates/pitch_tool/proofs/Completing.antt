@@ -5,17 +5,16 @@ use Rattle.std.specs.Result.{result_err}
 use Rattle.pitch_io.specs.Causes.{Rose}
 use Rattle.pitch_words.specs.Forms.{IsForm}
 use Rattle.pitch_words.specs.declared.form.Form.{Form}
+use Rattle.pitch_words.specs.declared.form.Form.TheVariants.{Stream, Text, Storm, Drill, Demo, Audit}
 use Rattle.pitch_words.proofs.Exact.{at_most_one}
 use Rattle.stream_print.specs.Inputs.{Has, AreAll, stream_limit, trouble_of}
 use Rattle.pitch_tool.specs.Devices.{Run, Wires, HasFaulted, HasNetFaulted}
-use Rattle.pitch_tool.specs.Jobs.{job_of, JobEnds, Judges, blocks_trouble}
+use Rattle.pitch_tool.specs.Jobs.{carrier_of, JobEnds, Judges}
 use Rattle.pitch_tool.specs.Program.{Closes, HasCauses, IsNoForm, IsWhole, IsRefusal}
 use Rattle.pitch_tool.specs.TextForms.{text_trouble, made}
 use Rattle.pitch_tool.specs.declared.failure.Failure.TheVariants as ending
 use Rattle.pitch_tool.specs.declared.failure.Trouble.{Trouble}
 use Rattle.pitch_tool.specs.declared.failure.Trouble.TheVariants.{Blocks, LongText, Commands, Schedule, SequencesSpent}
-use Rattle.pitch_tool.specs.declared.job.Job.{Job}
-use Rattle.pitch_tool.specs.declared.job.Job.TheVariants.{Stream, Text, Storm, Drill, Demo, Audit}
 use Rattle.pitch_tool.specs.declared.failure.Trouble.TheVariants as faults
 use Rattle.std.specs.Option.{option_map}
 use Rattle.pitch_fields.specs.Limits.{text_limit}
@@ -40,24 +39,24 @@ clash o trouble none some = no (sym none ∙ some)
     no e = cc
 
 -- ---- A sound input is not refused
-not_refused : (job : Job) (trouble : Trouble) (input out : Told) (net : Wires) → Judges job input.old None → JobEnds job (Err (ending.BadInput trouble)) input out net → ⊥
-not_refused (Stream carrier form) (Blocks trouble) input out net sound r =
-    clash (blocks_trouble (trouble_of carrier stream_limit r.bytes)) (Blocks trouble)
-    (ap (λ (l : List ℕ). blocks_trouble (trouble_of carrier stream_limit l)) (same_bytes input.old sound.0 r.bytes sound.1 r.has) ∙ sound.2) (ap blocks_trouble r.trouble_is)
-not_refused (Stream carrier form) LongText input out net sound r = r
-not_refused (Stream carrier form) (Commands error) input out net sound r = r
-not_refused (Stream carrier form) (Schedule error) input out net sound r = r
-not_refused (Stream carrier form) SequencesSpent input out net sound r = r
-not_refused (Stream carrier form) (faults.Audit fault) input out net sound r = r
+not_refused : (form : Form) (trouble : Trouble) (input out : Told) (net : Wires) → Judges form input.old None → JobEnds form (Err (ending.BadInput trouble)) input out net → ⊥
+not_refused (Stream carried form) (Blocks trouble) input out net sound r =
+    clash (option_map Blocks (trouble_of (carrier_of carried) stream_limit r.bytes)) (Blocks trouble)
+    (ap (λ (l : List ℕ). option_map Blocks (trouble_of (carrier_of carried) stream_limit l)) (same_bytes input.old sound.0 r.bytes sound.1 r.has) ∙ sound.2) (ap (option_map Blocks) r.trouble_is)
+not_refused (Stream carried form) LongText input out net sound r = r
+not_refused (Stream carried form) (Commands error) input out net sound r = r
+not_refused (Stream carried form) (Schedule error) input out net sound r = r
+not_refused (Stream carried form) SequencesSpent input out net sound r = r
+not_refused (Stream carried form) (faults.Audit fault) input out net sound r = r
 not_refused Audit trouble input out net sound r =
     clash (audit_trouble stream_limit r.bytes) trouble (ap (audit_trouble stream_limit) (same_bytes input.old sound.0 r.bytes sound.1 r.has) ∙ sound.2) r.trouble_is
-not_refused (Storm storm workers) trouble input out net sound r = r.1
+not_refused (Storm number units steps workers) trouble input out net sound r = r.1
 not_refused (Drill number units count) trouble input out net sound r = r.1
 not_refused (Demo number count) trouble input out net sound r = r.1
 not_refused (Text form) trouble input out net sound r =
     clash (text_trouble form text_limit r.text) trouble (ap (text_trouble form text_limit) (same_bytes input.old sound.0 r.text sound.1 r.has) ∙ sound.2) r.trouble_is
 
-pub closes_whole : (words : List (List ℕ)) (status : ExitStatus) (run : Run) (form : Form) → Closes words status run → HasCauses status run → IsForm words form → Judges (job_of form) run.input.bytes.old None
+pub closes_whole : (words : List (List ℕ)) (status : ExitStatus) (run : Run) (form : Form) → Closes words status run → HasCauses status run → IsForm words form → Judges form run.input.bytes.old None
     → HasFaulted run.input ⊎ (HasFaulted run.out ⊎ (HasNetFaulted run.net ⊎ IsWhole status))
 closes_whole words Done run form closes causes is sound = inr (inr (inr (inl refl)))
 closes_whole words OutOfMemory run form closes causes is sound = inr (inr (inr (inr refl)))
@@ -66,15 +65,15 @@ closes_whole words WriteFault run form closes causes is sound = inr (inl (causes
 closes_whole words NetFault run form closes causes is sound = inr (inr (inl (causes.net.rose refl)))
 closes_whole words Usage run form closes causes is sound = absurd (closes.0 form is)
 closes_whole words BadInput run form (trouble, does, said) causes is sound =
-    absurd (not_refused (job_of form) trouble run.input.bytes run.out.bytes run.net sound
-    (subst (λ (f : Form). JobEnds (job_of f) (Err (ending.BadInput trouble)) run.input.bytes run.out.bytes run.net) (at_most_one words does.0 form does.1 is) does.2))
+    absurd (not_refused form trouble run.input.bytes run.out.bytes run.net sound
+    (subst (λ (f : Form). JobEnds f (Err (ending.BadInput trouble)) run.input.bytes run.out.bytes run.net) (at_most_one words does.0 form does.1 is) does.2))
 
 -- ---- A faulty input is not done
-not_done : (job : Job) (trouble : Trouble) (input out : Told) (net : Wires) → Judges job input.old (Some trouble) → JobEnds job (Ok tt) input out net → ⊥
-not_done (Stream carrier form) trouble input out net wrong r =
-    clash (blocks_trouble (trouble_of carrier stream_limit r.bytes)) trouble (ap blocks_trouble r.sound)
-    (ap (λ (l : List ℕ). blocks_trouble (trouble_of carrier stream_limit l)) (all_bytes input.old input.new wrong.0 r.bytes wrong.1 r.read) ∙ wrong.2)
-not_done (Storm storm workers) trouble input out net wrong r = clash None trouble refl (sym wrong)
+not_done : (form : Form) (trouble : Trouble) (input out : Told) (net : Wires) → Judges form input.old (Some trouble) → JobEnds form (Ok tt) input out net → ⊥
+not_done (Stream carried form) trouble input out net wrong r =
+    clash (option_map Blocks (trouble_of (carrier_of carried) stream_limit r.bytes)) trouble (ap (option_map Blocks) r.sound)
+    (ap (λ (l : List ℕ). option_map Blocks (trouble_of (carrier_of carried) stream_limit l)) (all_bytes input.old input.new wrong.0 r.bytes wrong.1 r.read) ∙ wrong.2)
+not_done (Storm number units steps workers) trouble input out net wrong r = clash None trouble refl (sym wrong)
 not_done (Drill number units count) trouble input out net wrong r = clash None trouble refl (sym wrong)
 not_done (Demo number count) trouble input out net wrong r = clash None trouble refl (sym wrong)
 not_done Audit trouble input out net wrong (verdict, reads, grows) =
@@ -90,7 +89,7 @@ not_done (Text form) trouble input out net wrong r =
     (ap (text_trouble form text_limit) (all_bytes input.old input.new wrong.0 text wrong.1 r.makes.read) ∙ wrong.2)
 
 pub closes_refused : (words : List (List ℕ)) (status : ExitStatus) (run : Run) (form : Form) (trouble : Trouble) → Closes words status run → HasCauses status run → IsForm words form
-    → Judges (job_of form) run.input.bytes.old (Some trouble) → HasFaulted run.input ⊎ (HasFaulted run.out ⊎ (HasNetFaulted run.net ⊎ IsRefusal status))
+    → Judges form run.input.bytes.old (Some trouble) → HasFaulted run.input ⊎ (HasFaulted run.out ⊎ (HasNetFaulted run.net ⊎ IsRefusal status))
 closes_refused words BadInput run form trouble closes causes is wrong = inr (inr (inr (inl refl)))
 closes_refused words OutOfMemory run form trouble closes causes is wrong = inr (inr (inr (inr refl)))
 closes_refused words ReadFault run form trouble closes causes is wrong = inl (causes.read.rose refl)
@@ -98,8 +97,8 @@ closes_refused words WriteFault run form trouble closes causes is wrong = inr (i
 closes_refused words NetFault run form trouble closes causes is wrong = inr (inr (inl (causes.net.rose refl)))
 closes_refused words Usage run form trouble closes causes is wrong = absurd (closes.0 form is)
 closes_refused words Done run form trouble (f, is_f, ends) causes is wrong =
-    absurd (not_done (job_of form) trouble run.input.bytes run.out.bytes run.net wrong
-    (subst (λ (g : Form). JobEnds (job_of g) (Ok tt) run.input.bytes run.out.bytes run.net) (at_most_one words f form is_f is) ends))
+    absurd (not_done form trouble run.input.bytes run.out.bytes run.net wrong
+    (subst (λ (g : Form). JobEnds g (Ok tt) run.input.bytes run.out.bytes run.net) (at_most_one words f form is_f is) ends))
 
 -- ---- Words that are no form
 pub closes_unknown : (words : List (List ℕ)) (status : ExitStatus) (run : Run) → Closes words status run → IsNoForm words → (status ≡ Usage) ⊎ (status ≡ OutOfMemory)

@@ -1,5 +1,5 @@
 -- What ended by a failure, and what was read by then.
-use Rattle.std.proofs.Common.{◌≡◌, ℕ, List, Option, Some, None, Result, Ok, Err, true, false, sym, subst, true≢false}
+use Rattle.std.proofs.Common.{◌≡◌, ℕ, List, Option, Some, None, Result, Ok, Err, sym, subst, true≢false}
 use Rattle.std.specs.Result.{IsErr, IsErrAnd}
 use Rattle.stream_print.specs.Inputs.{AreAll, Has}
 use Rattle.pitch_tool.specs.declared.failure.Failure.{Failure}

@@ -1,4 +1,5 @@
 pub mod Audits
+pub mod Carriers
 pub mod Completing
 pub mod Demos
 pub mod Examples

@@ -12,7 +12,7 @@ use Rattle.stream_print.specs.Told.{Told, IsUntouched}
 use Rattle.stream_print.specs.declared.failure.StreamTrouble.TheVariants.{Faulty, BadCapture}
 use Rattle.stream_print.specs.declared.failure.StreamTrouble.TheVariants.{TooLong}
 use Rattle.pitch_tool.specs.Devices.{Run, Says, Wires, IsUncalled}
-use Rattle.pitch_tool.specs.Jobs.{job_of, uses_net, JobEnds, StopsInTime}
+use Rattle.pitch_tool.specs.Jobs.{uses_net, JobEnds, StopsInTime}
 use Rattle.pitch_tool.specs.declared.failure.Failure.{Failure}
 use Rattle.pitch_tool.specs.declared.failure.Failure.TheVariants as ending
 use Rattle.pitch_tool.specs.declared.failure.Trouble.{Trouble}
@@ -59,17 +59,17 @@ IsNoForm words = (form : Form) → IsForm words form → ⊥
 
 -- the words are no form of a demo: they are another form, or none
 abbrev pub IsNoDemo : List (List ℕ) → Type 0
-IsNoDemo words = (form : Form) → IsForm words form → uses_net (job_of form) ≡ false
+IsNoDemo words = (form : Form) → IsForm words form → uses_net form ≡ false
 
 -- where the words are a form that reads a stream, less than a piece was taken behind the byte with
 -- which a trouble shows
 abbrev pub StopsAtTrouble : List (List ℕ) → Told → Type 0
-StopsAtTrouble words input = (form : Form) → IsForm words form → StopsInTime (job_of form) input
+StopsAtTrouble words input = (form : Form) → IsForm words form → StopsInTime form input
 
 -- the words are a form, and its job ended so
 abbrev pub Does : List (List ℕ) → Result (Unit {0}) Failure → (input out : Told) → Wires → Type 0
 Does words result input out net =
-    (form : Form) × IsForm words form × JobEnds (job_of form) result input out net
+    (form : Form) × IsForm words form × JobEnds form result input out net
 
 -- memory ran out: before anything was read or the net was called, during the job, or where an input
 -- was refused and the line that says so was made

@@ -4,6 +4,8 @@ use Rattle.std.specs.Prelude.{Result, Ok, Err, if◌then◌else◌}
 use Rattle.std.specs.Result.{result_err}
 use Rattle.std.specs.Io.KnownBytes.{Consumes}
 use Rattle.pitch_io.specs.Putting.{Grows}
+use Rattle.pitch_words.specs.declared.form.TextWords.{TextWords}
+use Rattle.pitch_words.specs.declared.form.TextWords.TheVariants.{Pack, Replay}
 use Rattle.command_feed.specs.Feed.{feed_of, AppendsPacking}
 use Rattle.command_feed.specs.declared.error.CommandError.{CommandError}
 use Rattle.schedule_replay.specs.Replay.{replay_of}
@@ -18,8 +20,6 @@ use Rattle.pitch_tool.specs.declared.failure.Failure.TheVariants.{Usage, BadInpu
 use Rattle.pitch_tool.specs.declared.failure.Failure.TheVariants.{OutOfMemory}
 use Rattle.pitch_tool.specs.declared.failure.Trouble.{Trouble}
 use Rattle.pitch_tool.specs.declared.failure.Trouble.TheVariants.{LongText, Commands, Schedule}
-use Rattle.pitch_tool.specs.declared.job.TextForm.{TextForm}
-use Rattle.pitch_tool.specs.declared.job.TextForm.TheVariants.{Pack, Replay}
 
 -- the feed that some commands make, or what is wrong with them
 abbrev pub feed_or_trouble : Result (List ℕ) CommandError → Result (List ℕ) Trouble
@@ -32,25 +32,25 @@ replay_or_trouble (Ok written) = Ok written
 replay_or_trouble (Err error) = Err (Schedule error)
 
 -- what a form makes of a text, or what is wrong with the text: the same by any workers
-abbrev pub made : TextForm → List ℕ → Result (List ℕ) Trouble
+abbrev pub made : TextWords → List ℕ → Result (List ℕ) Trouble
 made (Pack unit) text = feed_or_trouble (feed_of unit text)
 made (Replay workers) text = replay_or_trouble (replay_of text)
 
 -- what it was made of: what is packed of a text is a packing of the messages that a venue accepts
 -- of it, and for what a schedule writes the worlds of its units were run through all its lines
-abbrev pub IsMadeOf : TextForm → (text bytes : List ℕ) → Type 0
+abbrev pub IsMadeOf : TextWords → (text bytes : List ℕ) → Type 0
 IsMadeOf (Pack unit) text bytes = AppendsPacking unit text [] bytes
 IsMadeOf (Replay workers) text bytes = (worlds : List World) × AreRunThrough text worlds
 
 -- what is wrong with a text of which at most `most` bytes are read: that it has more, or else what
 -- the form finds
-abbrev pub text_trouble : TextForm → ℕ → List ℕ → Option Trouble
+abbrev pub text_trouble : TextWords → ℕ → List ℕ → Option Trouble
 text_trouble form most text =
     if nat_lt most (length text) then Some LongText else result_err (made form text)
 
 -- ---- How a text form ends
 -- the whole text was read
-pub record ReadsText (form : TextForm) (most : ℕ) (input : Told) (bytes : List ℕ) : Type 0 where
+pub record ReadsText (form : TextWords) (most : ℕ) (input : Told) (bytes : List ℕ) : Type 0 where
   pub text : List ℕ
   pub read : ReadsAll input text
   pub small : length text ≤ most
@@ -58,19 +58,19 @@ pub record ReadsText (form : TextForm) (most : ℕ) (input : Told) (bytes : List
   pub made_of : IsMadeOf form text bytes
 
 -- the whole text was read, and what it makes was written
-pub record WritesMade (form : TextForm) (most : ℕ) (input out : Told) : Type 0 where
+pub record WritesMade (form : TextWords) (most : ℕ) (input out : Told) : Type 0 where
   pub bytes : List ℕ
   pub makes : ReadsText form most input bytes
   pub wrote : Grows out.old out.new bytes
 
 -- the whole text was read, and a prefix of what it makes was written
-pub record WritesMadeSome (form : TextForm) (most : ℕ) (input out : Told) : Type 0 where
+pub record WritesMadeSome (form : TextWords) (most : ℕ) (input out : Told) : Type 0 where
   pub bytes : List ℕ
   pub makes : ReadsText form most input bytes
   pub wrote : PutsSome out.old out.new bytes
 
 -- the text has this trouble, and nothing was written
-pub record RefusesText (form : TextForm) (most : ℕ) (trouble : Trouble) (input out : Told) :
+pub record RefusesText (form : TextWords) (most : ℕ) (trouble : Trouble) (input out : Told) :
     Type 0 where
   pub text : List ℕ
   pub has : Has input.old text
@@ -84,7 +84,7 @@ pub record ReadsNoText (input out : Told) : Type 0 where
   pub wrote : IsUntouched out
 
 -- how it ends
-abbrev pub TextEnds : TextForm → ℕ → Result (Unit {0}) Failure → (input out : Told) → Type 0
+abbrev pub TextEnds : TextWords → ℕ → Result (Unit {0}) Failure → (input out : Told) → Type 0
 TextEnds form most (Ok done) input out = WritesMade form most input out
 TextEnds form most (Err Usage) input out = ⊥
 TextEnds form most (Err (BadInput trouble)) input out = RefusesText form most trouble input out

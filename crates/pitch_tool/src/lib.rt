@@ -8,10 +8,10 @@
 
 mod commands;
 mod failure;
-mod job;
 mod program;
 mod reading;
 mod status;
+mod stream;
 mod text;
 
 pub use crate::program::{pitch, say_out_of_memory};

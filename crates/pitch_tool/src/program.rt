@@ -8,13 +8,12 @@ ghost use Rattle.pitch_words.specs.Forms.{IsForm};
 ghost use Rattle.pitch_words.specs.declared.form.Form.{Form};
 ghost use Rattle.stream_print.specs.Told.{told, TakesAtMost};
 ghost use Rattle.pitch_tool.specs.Devices.{device, wires};
-ghost use Rattle.pitch_tool.specs.Jobs.{Judges, job_of as the_job, most_taken};
+ghost use Rattle.pitch_tool.specs.Jobs.{Judges, most_taken};
 ghost use Rattle.pitch_tool.specs.Program.{memory_text, trouble_text, IsNoForm, IsNoDemo, RunEnds};
 ghost use Rattle.pitch_tool.specs.Program.{Closes, HasCauses, StopsAtTrouble, IsWhole, IsRefusal};
 
 use crate::commands::do_job;
 use crate::failure::{Failure, Trouble};
-use crate::job::job_of;
 use crate::status::ExitStatus;
 use pitch_fields::OutOfMemory;
 use pitch_io::{Gate, Net, Sink, Source};
@@ -38,7 +37,7 @@ fn run<R: Threads + Wait + Clock + Sync, I: Source, O: Sink, N: Net, G: Gate + S
     ensures runs { RunEnds (map string_bytes words.now) result (told I.left input.old input.new)
         (told O.written out.old out.new) (wires N.calls N.faults net.old net.new) }
     ensures reads { (form : Form) → IsForm (map string_bytes words.now) form
-        → TakesAtMost (most_taken (the_job form)) (told I.left input.old input.new) }
+        → TakesAtMost (most_taken form) (told I.left input.old input.new) }
     ensures stops { StopsAtTrouble (map string_bytes words.now) (told I.left input.old input.new) }
     ensures read_cause { HasCause
         (I.faults input.old) (I.faults input.new) (result ≡ Err Failure.Read) }
@@ -50,7 +49,7 @@ fn run<R: Threads + Wait + Clock + Sync, I: Source, O: Sink, N: Net, G: Gate + S
     ensures unused { IsNoDemo (map string_bytes words.now) → net.new ≡ net.old }
 {
     match read(alloc, words)? {
-        Some(form) => do_job(rt, alloc, job_of(form), input, out, net, gate),
+        Some(form) => do_job(rt, alloc, form, input, out, net, gate),
         None => Err(Failure::Usage),
     }
 }
@@ -121,7 +120,7 @@ fn close<R: Threads + Wait + Clock + Sync, I: Source, O: Sink, E: Sink, N: Net, 
     }) }
     ensures quiet { result ≡ ExitStatus.Done → E.written err.new ≡ E.written err.old }
     ensures reads { (form : Form) → IsForm (map string_bytes words.now) form
-        → TakesAtMost (most_taken (the_job form)) (told I.left input.old input.new) }
+        → TakesAtMost (most_taken form) (told I.left input.old input.new) }
     ensures stops { StopsAtTrouble (map string_bytes words.now) (told I.left input.old input.new) }
     ensures read_cause { HasCause
         (I.faults input.old) (I.faults input.new) (result ≡ ExitStatus.ReadFault) }
@@ -242,7 +241,7 @@ pub fn pitch<R: Threads + Wait + Clock + Sync, I: Source, O: Sink, E: Sink, N: N
     }) }
     // Whatever the status, the source gave no more than one byte past the limit of the form.
     ensures reads { (form : Form) → IsForm (map string_bytes words.now) form
-        → TakesAtMost (most_taken (the_job form)) (told I.left input.old input.new) }
+        → TakesAtMost (most_taken form) (told I.left input.old input.new) }
     // Of a stream, less than a piece of 65,536 bytes is taken behind the byte that shows a trouble.
     ensures stops { StopsAtTrouble (map string_bytes words.now) (told I.left input.old input.new) }
     // Only a demo uses the net, and words that are no form do not.
@@ -253,13 +252,13 @@ pub fn pitch<R: Threads + Wait + Clock + Sync, I: Source, O: Sink, E: Sink, N: N
     // Where nothing is wrong with the words and the input and no device failed, the job was done
     // whole, or memory ran out.
     ensures complete { (form : Form)
-        → IsForm (map string_bytes words.now) form → Judges (the_job form) (I.left input.old) None
+        → IsForm (map string_bytes words.now) form → Judges form (I.left input.old) None
         → Rose (I.faults input.old) (I.faults input.new) ⊎ (Rose (O.faults out.old)
         (O.faults out.new) ⊎ (Rose (N.faults net.old) (N.faults net.new) ⊎ IsWhole result)) }
     // Where something is wrong with the input and no device failed, the input was refused, or
     // memory ran out.
     ensures refused { (form : Form) (trouble : Trouble) → IsForm (map string_bytes words.now) form
-        → Judges (the_job form) (I.left input.old) (Some trouble)
+        → Judges form (I.left input.old) (Some trouble)
         → Rose (I.faults input.old) (I.faults input.new) ⊎ (Rose (O.faults out.old)
         (O.faults out.new) ⊎ (Rose (N.faults net.old) (N.faults net.new) ⊎ IsRefusal result)) }
 {

@@ -12,10 +12,10 @@ ghost use Rattle.pitch_tool.specs.TextForms.{TextEnds};
 use crate::commands::pack::pack;
 use crate::commands::replay::replay;
 use crate::failure::{Failure, Trouble};
-use crate::job::TextForm;
 use crate::reading::read_whole;
 use pitch_fields::TEXT_LIMIT;
 use pitch_io::{Gate, Sink, Source};
+use pitch_words::TextWords;
 use std::alloc::Global;
 use std::thread::Threads;
 use stream_print::put_all;
@@ -24,7 +24,7 @@ use stream_print::put_all;
 fn make<R: Threads + Sync, G: Gate + Sync>(
     rt: &R,
     alloc: Global,
-    form: TextForm,
+    form: TextWords,
     text: &[u8],
     gate: &G,
 ) -> Result<Vec<u8>, Failure>
@@ -35,8 +35,8 @@ fn make<R: Threads + Sync, G: Gate + Sync>(
     ensures unmade { IfErr result (IsUnmade (made form text.now)) }
 {
     match form {
-        TextForm::Pack { unit } => pack(alloc, unit, text),
-        TextForm::Replay { workers } => replay(rt, alloc, text, workers, gate),
+        TextWords::Pack { unit } => pack(alloc, unit, text),
+        TextWords::Replay { workers } => replay(rt, alloc, text, workers, gate),
     }
 }
 
@@ -46,7 +46,7 @@ fn make<R: Threads + Sync, G: Gate + Sync>(
 pub fn print_text<R: Threads + Sync, I: Source, O: Sink, G: Gate + Sync>(
     rt: &R,
     alloc: Global,
-    form: TextForm,
+    form: TextWords,
     input: &mut I,
     out: &mut O,
     gate: &G,

@@ -1,10 +1,10 @@
 -- The words are a form exactly where clap takes them and finds the form.
-use Rattle.std.proofs.Common.{◌≡◌, ◌∙◌, ℕ, ◌≤◌, ◌-◌, ◌^◌, arith, Bool, true, false, refl, sym, ap, subst, List, [], Option, Some, None, true≢false}
+use Rattle.std.proofs.Common.{◌≡◌, ◌∙◌, ℕ, ◌≤◌, ◌-◌, ◌^◌, arith, Bool, true, false, refl, sym, ap, ap₂, subst, List, [], Option, Some, None, true≢false}
 use Rattle.std.specs.Prelude.{IfSome, MatchOption, codes}
 use Rattle.std.specs.List.{All, list_all}
 use Rattle.std.specs.Str.{IsUtf8, bytes_eq}
 use Rattle.std.proofs.lemmas.Slice.Eq.{bytes_eq-Decides}
-use Rattle.clap.specs.Walk.{Row}
+use Rattle.clap.specs.Walk.{Row, first_of}
 use Rattle.clap.specs.Simple.{subcommand_of}
 use Rattle.clap.specs.Faults.{fault_of}
 use Rattle.long_options.specs.Words.{Described, IsCall, Text}
@@ -12,28 +12,32 @@ use Rattle.long_options.specs.Plain.{described, has_dashes, is_plain}
 use Rattle.long_options.specs.Found.{Options}
 use Rattle.long_options.specs.layers.Finding.{found_options}
 use Rattle.long_options.proofs.Program.{calls_taken, takes_calls}
+use Rattle.pitch_fields.specs.Limits.{IsHoldLimit, most_held}
+use Rattle.pitch_text.specs.Defaults.{default_hold}
 use Rattle.pitch_words.specs.Numbers.{IsGivenNumber, IsGivenOr, IsGivenMaybe}
-use Rattle.pitch_fields.specs.Limits.{most_held}
-use Rattle.pitch_words.specs.Forms.{HasNumbers, IsForm, command_of}
+use Rattle.pitch_words.specs.Forms.{HasNumbers, IsCarried, IsForm, command_of}
 use Rattle.pitch_words.specs.layers.Commands.{HasForm, IsInRange, commands, pitch}
 use Rattle.pitch_words.specs.declared.form.Form.{Form}
-use Rattle.pitch_text.specs.Defaults.{default_hold}
-use Rattle.pitch_words.specs.declared.form.Form.TheVariants.{Follow, FollowCapture, Show, Pack, Replay, Storm, Drill, Demo, Relay, Quotes, Audit}
+use Rattle.pitch_words.specs.declared.form.Form.TheVariants as form
+use Rattle.pitch_words.specs.declared.form.Form.TheVariants.{Stream, Storm, Drill, Demo, Audit}
+use Rattle.pitch_words.specs.declared.form.Carried.{Carried}
+use Rattle.pitch_words.specs.declared.form.Carried.TheVariants.{Bare, Capture}
+use Rattle.pitch_words.specs.declared.form.StreamWords.TheVariants.{Follow, Show, Relay, Quotes}
+use Rattle.pitch_words.specs.declared.form.TextWords.TheVariants.{Pack, Replay}
 
 -- ---- a line for each form
 
 -- a form's command is one of the program's
 command_is : (form : Form) → described commands (command_of form).0 ≡ Some (command_of form)
-command_is (Follow hold) = refl
-command_is (FollowCapture port hold) = refl
-command_is Show = refl
-command_is (Pack unit) = refl
-command_is (Replay workers) = refl
+command_is (Stream carried (Follow hold)) = refl
+command_is (Stream carried Show) = refl
+command_is (Stream carried (Relay hold)) = refl
+command_is (Stream carried (Quotes hold)) = refl
+command_is (form.Text (Pack unit)) = refl
+command_is (form.Text (Replay workers)) = refl
 command_is (Storm number units steps workers) = refl
 command_is (Drill number units count) = refl
 command_is (Demo number count) = refl
-command_is (Relay hold) = refl
-command_is (Quotes hold) = refl
 command_is Audit = refl
 
 given_or_same : (default least most : ℕ) (o : Option Text) (m n : ℕ) → IsGivenOr default least most o m → IsGivenOr default least most o n → m ≡ n
@@ -50,17 +54,26 @@ maybe_same least most (Some t) None n a b = absurd a
 maybe_same least most (Some t) (Some m) None a b = absurd b
 maybe_same least most (Some t) (Some m) (Some n) a b = ap (λ (k : ℕ). Some k) (sym a.2 ∙ b.2)
 
+carried_same : (pcap : Bool) (port : Option Text) (a b : Carried) → IsCarried pcap port a → IsCarried pcap port b → a ≡ b
+carried_same pcap port Bare Bare a b = refl
+carried_same pcap port Bare (Capture q) a b = absurd (true≢false (sym b.0 ∙ a.0))
+carried_same pcap port (Capture p) Bare a b = absurd (true≢false (sym a.0 ∙ b.0))
+carried_same pcap port (Capture p) (Capture q) a b = ap Capture (maybe_same 0 65535 port p q a.1 b.1)
+
 -- options have the numbers of one form of a command
 numbers_same : (options : Options) (a b : Form) → bytes_eq (command_of a).0 (command_of b).0 ≡ true → HasNumbers options a → HasNumbers options b → a ≡ b
-numbers_same options (Follow m) (Follow n) e a b = ap Follow (given_or_same default_hold 1 65536 (options.value (codes "hold")) m n a.2 b.2)
-numbers_same options (FollowCapture p m) (FollowCapture q n) e a b =
-    ap (λ (k : Option ℕ). FollowCapture k m) (maybe_same 0 65535 (options.value (codes "port")) p q a.1 b.1)
-    ∙ ap (λ (k : ℕ). FollowCapture q k) (given_or_same default_hold 1 65536 (options.value (codes "hold")) m n a.2 b.2)
-numbers_same options (Follow m) (FollowCapture q n) e a b = absurd (true≢false (sym b.0 ∙ a.0))
-numbers_same options (FollowCapture p m) (Follow n) e a b = absurd (true≢false (sym a.0 ∙ b.0))
-numbers_same options Show Show e a b = refl
-numbers_same options (Pack m) (Pack n) e a b = ap Pack (given_same 1 255 (options.value (codes "unit")) m n a b)
-numbers_same options (Replay m) (Replay n) e a b = ap Replay (given_or_same 1 1 64 (options.value (codes "workers")) m n a b)
+numbers_same options (Stream c (Follow m)) (Stream d (Follow n)) e a b =
+    ap₂ (λ (x : Carried) (k : ℕ). Stream x (Follow k)) (carried_same (options.has (codes "pcap")) (options.value (codes "port")) c d a.0 b.0) (given_or_same default_hold 1 most_held (options.value (codes "hold")) m n a.1 b.1)
+numbers_same options (Stream c Show) (Stream d Show) e a b =
+    ap (λ (x : Carried). Stream x Show) (carried_same (options.has (codes "pcap")) (options.value (codes "port")) c d a.0 b.0)
+numbers_same options (Stream c (Relay m)) (Stream d (Relay n)) e a b =
+    ap₂ (λ (x : Carried) (k : ℕ). Stream x (Relay k)) (carried_same (options.has (codes "pcap")) (options.value (codes "port")) c d a.0 b.0) (given_or_same default_hold 1 most_held (options.value (codes "hold")) m n a.1 b.1)
+numbers_same options (Stream c (Quotes m)) (Stream d (Quotes n)) e a b =
+    ap₂ (λ (x : Carried) (k : ℕ). Stream x (Quotes k)) (carried_same (options.has (codes "pcap")) (options.value (codes "port")) c d a.0 b.0) (given_or_same default_hold 1 most_held (options.value (codes "hold")) m n a.1 b.1)
+numbers_same options (form.Text (Pack m)) (form.Text (Pack n)) e a b =
+    ap (λ (k : ℕ). form.Text (Pack k)) (given_same 1 255 (options.value (codes "unit")) m n a b)
+numbers_same options (form.Text (Replay m)) (form.Text (Replay n)) e a b =
+    ap (λ (k : ℕ). form.Text (Replay k)) (given_or_same 1 1 64 (options.value (codes "workers")) m n a b)
 numbers_same options (Storm number units steps workers) (Storm number' units' steps' workers') e a b =
     ap (λ (n : ℕ). Storm n units steps workers) (given_same 0 (2 ^ 64 - 1) (options.value (codes "number")) number number' a.0 b.0)
     ∙ ap (λ (n : ℕ). Storm number' n steps workers) (given_same 1 16 (options.value (codes "units")) units units' a.1 b.1)
@@ -73,9 +86,9 @@ numbers_same options (Drill number units count) (Drill number' units' count') e 
 numbers_same options (Demo number count) (Demo number' count') e a b =
     ap (λ (n : ℕ). Demo n count) (given_same 0 (2 ^ 64 - 1) (options.value (codes "number")) number number' a.0 b.0)
     ∙ ap (λ (n : ℕ). Demo number' n) (given_same 1 1000 (options.value (codes "count")) count count' a.1 b.1)
-numbers_same options (Relay m) (Relay n) e a b = ap Relay (given_or_same default_hold 1 65536 (options.value (codes "hold")) m n a b)
-numbers_same options (Quotes m) (Quotes n) e a b = ap Quotes (given_or_same default_hold 1 65536 (options.value (codes "hold")) m n a b)
 numbers_same options Audit Audit e a b = refl
+numbers_same options _ (Stream d Show) e a b = cc
+numbers_same options _ (form.Text (Pack n)) e a b = cc
 numbers_same options _ _ e a b = cc
 
 given_in_range : (least most : ℕ) (o : Option Text) (n : ℕ) → IsGivenNumber least most o n → (least ≤ n) × (n ≤ most)
@@ -86,27 +99,31 @@ given_or_in_range : (default least most : ℕ) (o : Option Text) (n : ℕ) → (
 given_or_in_range default least most None n fits a = subst (λ (m : ℕ). (least ≤ m) × (m ≤ most)) (sym a) fits
 given_or_in_range default least most (Some t) n fits a = (a.3, a.4)
 
-hold_in_range : (o : Option Text) (n : ℕ) → IsGivenOr default_hold 1 most_held o n → (1 ≤ n) × (n ≤ most_held)
+hold_in_range : (o : Option Text) (n : ℕ) → IsGivenOr default_hold 1 most_held o n → IsHoldLimit n
 hold_in_range o n a = given_or_in_range default_hold 1 most_held o n (omega arith, omega arith) a
 
 workers_in_range : (o : Option Text) (n : ℕ) → IsGivenOr 1 1 64 o n → (1 ≤ n) × (n ≤ 64)
 workers_in_range o n a = given_or_in_range 1 1 64 o n (omega arith, omega arith) a
 
--- the numbers of a form lie within their ranges
-in_range : (options : Options) (form : Form) → HasNumbers options form → IsInRange form
-in_range options (Follow hold) a = hold_in_range (options.value (codes "hold")) hold a.2
-in_range options (FollowCapture port hold) a = hold_in_range (options.value (codes "hold")) hold a.2
-in_range options Show a = tt
-in_range options (Pack unit) a = given_in_range 1 255 (options.value (codes "unit")) unit a
-in_range options (Replay workers) a = workers_in_range (options.value (codes "workers")) workers a
-in_range options (Storm number units steps workers) a =
-    (given_in_range 1 16 (options.value (codes "units")) units a.1, given_in_range 1 10000 (options.value (codes "steps")) steps a.2, workers_in_range (options.value (codes "workers")) workers a.3)
-in_range options (Drill number units count) a =
-    (given_in_range 1 16 (options.value (codes "units")) units a.1, given_in_range 1 100000 (options.value (codes "count")) count a.2)
-in_range options (Demo number count) a = given_in_range 1 1000 (options.value (codes "count")) count a.1
-in_range options (Relay hold) a = hold_in_range (options.value (codes "hold")) hold a
-in_range options (Quotes hold) a = hold_in_range (options.value (codes "hold")) hold a
-in_range options Audit a = tt
+-- a command without `--pcap` reads what nothing carries
+bare : (port : Option Text) (carried : Carried) → IsCarried false port carried → carried ≡ Bare
+bare port Bare a = refl
+bare port (Capture p) a = absurd (true≢false (sym a.0))
+
+-- the numbers of a form, among the options of its command, lie within their ranges
+in_range : (rows : List Row) (form : Form) → HasNumbers (found_options (command_of form).1 rows) form → IsInRange form
+in_range rows (Stream carried (Follow hold)) a = (tt, hold_in_range (first_of (codes "hold") rows) hold a.1)
+in_range rows (Stream carried Show) a = (bare None carried a.0, tt)
+in_range rows (Stream carried (Relay hold)) a = (bare None carried a.0, hold_in_range (first_of (codes "hold") rows) hold a.1)
+in_range rows (Stream carried (Quotes hold)) a = (bare None carried a.0, hold_in_range (first_of (codes "hold") rows) hold a.1)
+in_range rows (form.Text (Pack unit)) a = given_in_range 1 255 (first_of (codes "unit") rows) unit a
+in_range rows (form.Text (Replay workers)) a = workers_in_range (first_of (codes "workers") rows) workers a
+in_range rows (Storm number units steps workers) a =
+    (given_in_range 1 16 (first_of (codes "units") rows) units a.1, given_in_range 1 10000 (first_of (codes "steps") rows) steps a.2, workers_in_range (first_of (codes "workers") rows) workers a.3)
+in_range rows (Drill number units count) a =
+    (given_in_range 1 16 (first_of (codes "units") rows) units a.1, given_in_range 1 100000 (first_of (codes "count") rows) count a.2)
+in_range rows (Demo number count) a = given_in_range 1 1000 (first_of (codes "count") rows) count a.1
+in_range rows Audit a = tt
 
 -- ---- whatever the forms are
 
@@ -162,4 +179,4 @@ as_found words texts b rows (Some form) is e (takes, at) h = form_found words fo
 pub found_in_range : (rows : Option (Text × List Row)) (r : Option Form) → MatchOption r ((form : Form) → HasForm rows form → ⊥) (HasForm rows) → IfSome r IsInRange
 found_in_range rows None found = tt
 found_in_range None (Some form) found = absurd found
-found_in_range (Some rows) (Some form) found = in_range (found_options (command_of form).1 rows.1) form found.1
+found_in_range (Some rows) (Some form) found = in_range rows.1 form found.1

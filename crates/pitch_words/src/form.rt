@@ -3,30 +3,15 @@
 /// What the program is asked to do, with its numbers.
 #[derive(Clone, Copy, PartialEq, Eq)]
 pub enum Form {
-    /// `follow [--hold H]`: read a block stream, with room for `hold` messages beyond each gap.
-    Follow {
-        /// How many messages a unit's hold has room for: 1 to 65,536.
-        hold: u32,
+    /// Read a stream of blocks, and print it as it comes.
+    Stream {
+        /// What carries the blocks.
+        carried: Carried,
+        /// What is printed of them.
+        form: StreamWords,
     },
-    /// `follow --pcap [--port P] [--hold H]`: likewise of the blocks in a capture's datagrams.
-    FollowCapture {
-        /// The destination port of the datagrams that are read, where it is not any.
-        port: Option<u16>,
-        /// How many messages a unit's hold has room for: 1 to 65,536.
-        hold: u32,
-    },
-    /// `show`: read a block stream, and print its blocks and messages.
-    Show,
-    /// `pack --unit U`: read venue commands, and write their datagrams.
-    Pack {
-        /// The unit of the datagrams: 1 to 255.
-        unit: u8,
-    },
-    /// `replay [--workers K]`: read a schedule, and write what its lines do.
-    Replay {
-        /// In how many pieces of work at most its units run beside one another: 1 to 64.
-        workers: u8,
-    },
+    /// Read a whole text, and write what it makes.
+    Text(TextWords),
     /// `storm --number S --units N --steps M [--workers K]`: make a schedule and replay it, and
     /// write where its units ended.
     Storm {
@@ -55,18 +40,58 @@ pub enum Form {
         /// How many messages its venue accepts: 1 to 1,000.
         count: u32,
     },
-    /// `relay [--hold H]`: read a merged stream of line blocks and Spin Server blocks, and write
-    /// the datagrams of a relay for each unit.
+    /// `audit`: read a log and a printed report, and say whether they agree.
+    Audit,
+}
+
+/// What carries the blocks of a stream.
+#[derive(Clone, Copy, PartialEq, Eq)]
+pub enum Carried {
+    /// Nothing does: they stand back to back.
+    Bare,
+    /// `--pcap [--port P]`: a capture does, in whose datagrams they stand.
+    Capture {
+        /// The destination port of the datagrams that are read, where it is not any.
+        port: Option<u16>,
+    },
+}
+
+/// What is printed of a stream of blocks.
+#[derive(Clone, Copy, PartialEq, Eq)]
+pub enum StreamWords {
+    /// `follow [--hold H]`, also with `--pcap [--port P]`: a line for each block, and the books of
+    /// all units, with room for `hold` messages beyond each gap.
+    Follow {
+        /// How many messages a unit's hold has room for: 1 to 65,536.
+        hold: u32,
+    },
+    /// `show`: the blocks and their messages.
+    Show,
+    /// `relay [--hold H]`: of a merged stream of line blocks and Spin Server blocks the datagrams
+    /// of a relay for each unit.
     Relay {
         /// How many messages a unit's hold has room for: 1 to 65,536.
         hold: u32,
     },
-    /// `quotes [--hold H]`: read a block stream as `follow` does, and write a line wherever the
-    /// best price of a symbol on a side, or its shares, became another.
+    /// `quotes [--hold H]`: of a stream that is read as `follow` does a line wherever the best
+    /// price of a symbol on a side, or its shares, became another.
     Quotes {
         /// How many messages a unit's hold has room for: 1 to 65,536.
         hold: u32,
     },
-    /// `audit`: read a log and a printed report, and say whether they agree.
-    Audit,
+}
+
+/// What is made of a whole text.
+#[derive(Clone, Copy, PartialEq, Eq)]
+pub enum TextWords {
+    /// `pack --unit U`: of venue commands their datagrams.
+    Pack {
+        /// The unit of the datagrams: 1 to 255.
+        unit: u8,
+    },
+    /// `replay [--workers K]`: of a schedule what its lines do.
+    Replay {
+        /// In how many pieces of work at most its units run beside one another: 1 to 64.
+        workers: u8,
+    },
 }

@@ -3,14 +3,21 @@ ghost use Rattle.std.specs.Prelude.{◌≡◌, ℕ, ◌≤◌, IfNone, IfSome, M
 ghost use Rattle.std.specs.Prelude.{option_map};
 ghost use Rattle.clap.specs.Matches.{found_of};
 ghost use Rattle.clap.specs.Simple.{subcommand_rows_of};
-ghost use Rattle.long_options.specs.layers.Finding.{is_set};
 ghost use Rattle.clap.specs.Walk.{first_of, rows_of};
+ghost use Rattle.long_options.specs.layers.Finding.{is_set};
+ghost use Rattle.pitch_fields.specs.Limits.{most_held};
+ghost use Rattle.pitch_text.specs.Defaults.{default_hold};
+ghost use Rattle.pitch_words.specs.Forms.{IsCarried};
 ghost use Rattle.pitch_words.specs.Numbers.{IsGivenNumber, IsGivenOr, IsGivenMaybe, IsNumber};
-ghost use Rattle.pitch_words.specs.layers.Commands.{HasForm, follow_form};
+ghost use Rattle.pitch_words.specs.layers.Commands.{HasForm, carried_by};
+ghost use Rattle.pitch_words.specs.declared.form.Carried.{Carried};
+ghost use Rattle.pitch_words.specs.declared.form.Carried.TheVariants.{Bare};
 ghost use Rattle.pitch_words.specs.declared.form.Form.{Form};
+ghost use Rattle.pitch_words.specs.declared.form.Form.TheVariants.{Stream};
 
-use crate::form::Form;
+use crate::form::{Carried, Form, StreamWords, TextWords};
 use clap::ArgMatches;
+use pitch_fields::MOST_HELD;
 use pitch_text::DEFAULT_HOLD;
 
 // The number that the text writes by 1 to 20 digits, where it lies within the range.
@@ -90,16 +97,16 @@ fn is_given(matches: &ArgMatches, name: &str) -> bool
     }
 }
 
-// The form of `follow`: a port is given only for a capture.
-fn follow_form(pcap: bool, port: Option<u16>, hold: u32) -> Option<Form>
-    ensures form { result ≡ follow_form pcap port hold }
+// What carries a stream: a port is given only for a capture.
+fn carried_by(pcap: bool, port: Option<u16>) -> Option<Carried>
+    ensures { result ≡ carried_by pcap port }
 {
     if pcap {
-        return Some(Form::FollowCapture { port, hold });
+        return Some(Carried::Capture { port });
     }
     match port {
         Some(_) => None,
-        None => Some(Form::Follow { hold }),
+        None => Some(Carried::Bare),
     }
 }
 
@@ -114,15 +121,53 @@ fn as_port(port: Option<u64>) -> Option<u16>
     }
 }
 
-// `follow [--hold H]`, and `follow --pcap [--port P] [--hold H]`
+// What carries the stream of a command that has `--pcap [--port P]`.
+fn carried(matches: &ArgMatches) -> Option<Carried>
+    ensures { MatchOption result
+        ((carried : Carried) → ¬ IsCarried (is_set (first_of (codes "pcap") (rows_of (found_of
+        matches.now)))) (first_of (codes "port") (rows_of (found_of matches.now))) carried)
+        (IsCarried (is_set (first_of (codes "pcap") (rows_of (found_of matches.now))))
+        (first_of (codes "port") (rows_of (found_of matches.now)))) }
+{
+    let port = given_maybe(matches, "port", 0, 65535)?;
+    carried_by(is_given(matches, "pcap"), as_port(port))
+}
+
+// How many messages a hold has room for: `[--hold H]`.
+fn hold(matches: &ArgMatches) -> Option<u32>
+    ensures some { IfSome result (λ n. IsGivenOr default_hold 1 most_held
+        (first_of (codes "hold") (rows_of (found_of matches.now))) n) }
+    ensures none { IfNone result ((n : ℕ) → ¬ IsGivenOr default_hold 1 most_held
+        (first_of (codes "hold") (rows_of (found_of matches.now))) n) }
+{
+    let hold = given_or(
+        matches,
+        "hold",
+        u64::from(DEFAULT_HOLD),
+        1,
+        u64::from(MOST_HELD),
+    )?;
+    Some(hold as u32)
+}
+
+// `follow [--pcap [--port P]] [--hold H]`
 fn follow(matches: &ArgMatches) -> Option<Form>
     ensures form { MatchOption result
         ((form : Form) → ¬ HasForm (Some (codes "follow", rows_of (found_of matches.now))) form)
         (HasForm (Some (codes "follow", rows_of (found_of matches.now)))) }
 {
-    let hold = given_or(matches, "hold", u64::from(DEFAULT_HOLD), 1, 65536)?;
-    let port = given_maybe(matches, "port", 0, 65535)?;
-    follow_form(is_given(matches, "pcap"), as_port(port), hold as u32)
+    let carried = carried(matches)?;
+    let hold = hold(matches)?;
+    let form = StreamWords::Follow { hold };
+    Some(Form::Stream { carried, form })
+}
+
+// What is printed of a stream that nothing carries.
+fn bare(form: StreamWords) -> Form
+    ensures { result ≡ Stream Bare form }
+{
+    let carried = Carried::Bare;
+    Form::Stream { carried, form }
 }
 
 // `pack --unit U`
@@ -132,7 +177,8 @@ fn pack(matches: &ArgMatches) -> Option<Form>
         (HasForm (Some (codes "pack", rows_of (found_of matches.now)))) }
 {
     let unit = given(matches, "unit", 1, 255)?;
-    Some(Form::Pack { unit: unit as u8 })
+    let unit = unit as u8;
+    Some(Form::Text(TextWords::Pack { unit }))
 }
 
 // `replay [--workers K]`
@@ -142,9 +188,8 @@ fn replay(matches: &ArgMatches) -> Option<Form>
         (HasForm (Some (codes "replay", rows_of (found_of matches.now)))) }
 {
     let workers = given_or(matches, "workers", 1, 1, 64)?;
-    Some(Form::Replay {
-        workers: workers as u8,
-    })
+    let workers = workers as u8;
+    Some(Form::Text(TextWords::Replay { workers }))
 }
 
 // `storm --number S --units N --steps M [--workers K]`
@@ -201,10 +246,8 @@ fn relay(matches: &ArgMatches) -> Option<Form>
         ((form : Form) → ¬ HasForm (Some (codes "relay", rows_of (found_of matches.now))) form)
         (HasForm (Some (codes "relay", rows_of (found_of matches.now)))) }
 {
-    let places = given_or(matches, "hold", u64::from(DEFAULT_HOLD), 1, 65536)?;
-    Some(Form::Relay {
-        hold: places as u32,
-    })
+    let hold = hold(matches)?;
+    Some(bare(StreamWords::Relay { hold }))
 }
 
 // `quotes [--hold H]`
@@ -213,10 +256,8 @@ fn quotes(matches: &ArgMatches) -> Option<Form>
         ((form : Form) → ¬ HasForm (Some (codes "quotes", rows_of (found_of matches.now))) form)
         (HasForm (Some (codes "quotes", rows_of (found_of matches.now)))) }
 {
-    let places = given_or(matches, "hold", u64::from(DEFAULT_HOLD), 1, 65536)?;
-    Some(Form::Quotes {
-        hold: places as u32,
-    })
+    let hold = hold(matches)?;
+    Some(bare(StreamWords::Quotes { hold }))
 }
 
 // The form of the command of this name.
@@ -229,7 +270,7 @@ fn form_in(name: &str, matches: &ArgMatches) -> Option<Form>
 {
     match name {
         "follow" => follow(matches),
-        "show" => Some(Form::Show),
+        "show" => Some(bare(StreamWords::Show)),
         "pack" => pack(matches),
         "replay" => replay(matches),
         "storm" => storm(matches),

@@ -35,5 +35,5 @@ mod found;
 mod parse;
 mod reading;
 
-pub use crate::form::Form;
+pub use crate::form::{Carried, Form, StreamWords, TextWords};
 pub use crate::reading::{one_form, read};

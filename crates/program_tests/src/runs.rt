@@ -2,7 +2,7 @@
 ghost use Rattle.std.specs.Prelude.{◌<◌, Some, None, map, string_bytes};
 ghost use Rattle.pitch_words.specs.Forms.{IsForm};
 ghost use Rattle.pitch_words.specs.declared.form.Form.{Form};
-ghost use Rattle.pitch_tool.specs.Jobs.{Judges, job_of};
+ghost use Rattle.pitch_tool.specs.Jobs.{Judges};
 ghost use Rattle.pitch_tool.specs.Program.{IsWhole, IsRefusal};
 ghost use Rattle.pitch_tool.specs.declared.failure.Trouble.{Trouble};
 
@@ -81,10 +81,10 @@ fn pitch_steadily<R: Threads + Wait + Clock + Sync>(
 ) -> ExitStatus
     // Where nothing is wrong with the input, the job was done whole, or memory ran out.
     ensures complete { (form : Form) → IsForm (map string_bytes words.now) form
-        → Judges (job_of form) (Some input.old.bytes) None → IsWhole result }
+        → Judges form (Some input.old.bytes) None → IsWhole result }
     // Where something is wrong with the input, it was refused, or memory ran out.
     ensures refused { (form : Form) (trouble : Trouble) → IsForm (map string_bytes words.now) form
-        → Judges (job_of form) (Some input.old.bytes) (Some trouble) → IsRefusal result }
+        → Judges form (Some input.old.bytes) (Some trouble) → IsRefusal result }
 {
     pitch(rt, alloc, words, input, out, err, &mut NoNet, &FreeGate)
 }

@@ -1,52 +1,66 @@
 //! Command lines: the form that each is, and those that are none.
 
-use pitch_words::{Form, read};
+use pitch_words::{Carried, Form, StreamWords, TextWords, read};
 use std::alloc::Global;
 use std::process::Abort;
 
-// Words, which single spaces part, and their form.
-static FORMS: [(&str, Form); 28] = [
-    ("relay", Form::Relay { hold: 4096 }),
-    ("relay --hold=2", Form::Relay { hold: 2 }),
-    ("quotes", Form::Quotes { hold: 4096 }),
-    ("quotes --hold=2", Form::Quotes { hold: 2 }),
-    ("follow", Form::Follow { hold: 4096 }),
-    ("follow --hold 2", Form::Follow { hold: 2 }),
-    ("follow --hold=2", Form::Follow { hold: 2 }),
-    ("follow --hold 1", Form::Follow { hold: 1 }),
-    ("follow --hold 65536", Form::Follow { hold: 65536 }),
-    ("follow --hold 00004", Form::Follow { hold: 4 }),
+// What carries a stream.
+const BARE: Carried = Carried::Bare;
+
+const CAPTURE: Carried = Carried::Capture { port: None };
+
+const PORT_0: Carried = Carried::Capture { port: Some(0) };
+
+const LAST_PORT: Carried = Carried::Capture { port: Some(65535) };
+
+// Words of a stream, which single spaces part, what carries it, and what is printed of it.
+static STREAMS: [(&str, Carried, StreamWords); 15] = [
+    ("relay", BARE, StreamWords::Relay { hold: 4096 }),
+    ("relay --hold=2", BARE, StreamWords::Relay { hold: 2 }),
+    ("quotes", BARE, StreamWords::Quotes { hold: 4096 }),
+    ("quotes --hold=2", BARE, StreamWords::Quotes { hold: 2 }),
+    ("follow", BARE, StreamWords::Follow { hold: 4096 }),
+    ("follow --hold 2", BARE, StreamWords::Follow { hold: 2 }),
+    ("follow --hold=2", BARE, StreamWords::Follow { hold: 2 }),
+    ("follow --hold 1", BARE, StreamWords::Follow { hold: 1 }),
+    (
+        "follow --hold 65536",
+        BARE,
+        StreamWords::Follow { hold: 65536 },
+    ),
+    ("follow --hold 00004", BARE, StreamWords::Follow { hold: 4 }),
     (
         "follow --hold=00000000000000000005",
-        Form::Follow { hold: 5 },
+        BARE,
+        StreamWords::Follow { hold: 5 },
     ),
-    (
-        "follow --pcap",
-        Form::FollowCapture {
-            port: None,
-            hold: 4096,
-        },
-    ),
+    ("follow --pcap", CAPTURE, StreamWords::Follow { hold: 4096 }),
     (
         "follow --port 0 --pcap",
-        Form::FollowCapture {
-            port: Some(0),
-            hold: 4096,
-        },
+        PORT_0,
+        StreamWords::Follow { hold: 4096 },
     ),
     (
         "follow --hold=2 --pcap --port=65535",
-        Form::FollowCapture {
-            port: Some(65535),
-            hold: 2,
-        },
+        LAST_PORT,
+        StreamWords::Follow { hold: 2 },
     ),
-    ("show", Form::Show),
-    ("pack --unit 1", Form::Pack { unit: 1 }),
-    ("pack --unit=255", Form::Pack { unit: 255 }),
-    ("replay", Form::Replay { workers: 1 }),
-    ("replay --workers 2", Form::Replay { workers: 2 }),
-    ("replay --workers=64", Form::Replay { workers: 64 }),
+    ("show", BARE, StreamWords::Show),
+];
+
+// Other words, and their form.
+static FORMS: [(&str, Form); 13] = [
+    ("pack --unit 1", Form::Text(TextWords::Pack { unit: 1 })),
+    ("pack --unit=255", Form::Text(TextWords::Pack { unit: 255 })),
+    ("replay", Form::Text(TextWords::Replay { workers: 1 })),
+    (
+        "replay --workers 2",
+        Form::Text(TextWords::Replay { workers: 2 }),
+    ),
+    (
+        "replay --workers=64",
+        Form::Text(TextWords::Replay { workers: 64 }),
+    ),
     (
         "storm --number 7 --units 16 --steps 10000",
         Form::Storm {
@@ -108,7 +122,7 @@ static FORMS: [(&str, Form); 28] = [
 ];
 
 // Words that are no form.
-static REFUSED: [&str; 90] = [
+static REFUSED: [&str; 93] = [
     "quotes --hold 0",
     "follow --hold 0",
     "follow --hold 65537",
@@ -139,6 +153,9 @@ static REFUSED: [&str; 90] = [
     "follow --pcap --port=",
     "follow --pcap --port 65536",
     "show --pcap",
+    "quotes --pcap",
+    "relay --pcap",
+    "audit --pcap",
     "follow --hol 5",
     "follow ",
     "--hold 2 follow",
@@ -218,8 +235,20 @@ fn all_have_forms(rt: &impl Abort, alloc: Global, lines: &[(&str, Form)]) {
     }
 }
 
+// Each line asks for this of a stream.
+fn all_read_streams(rt: &impl Abort, alloc: Global, lines: &[(&str, Carried, StreamWords)]) {
+    for (line, carried, form) in lines {
+        let stream = Form::Stream {
+            carried: *carried,
+            form: *form,
+        };
+        assert!(rt; form_of_line(rt, alloc, line) == Some(stream));
+    }
+}
+
 #[test]
 fn each_form_is_read_from_its_words(rt: HostRuntime) {
+    all_read_streams(&rt, rt.alloc(), &STREAMS);
     all_have_forms(&rt, rt.alloc(), &FORMS);
 }
 

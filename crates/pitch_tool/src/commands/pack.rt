@@ -5,7 +5,7 @@ ghost use Rattle.pitch_fields.specs.Limits.{text_limit};
 ghost use Rattle.command_feed.specs.Feed.{AppendsPacking};
 ghost use Rattle.pitch_tool.specs.TextForms.{made};
 ghost use Rattle.pitch_tool.specs.layers.Failures.{IsUnmade};
-ghost use Rattle.pitch_tool.specs.declared.job.TextForm.TheVariants.{Pack};
+ghost use Rattle.pitch_words.specs.declared.form.TextWords.TheVariants.{Pack};
 
 use crate::failure::Failure;
 use command_feed::append_feed;

@@ -5,7 +5,7 @@ ghost use Rattle.pitch_fields.specs.Limits.{text_limit};
 ghost use Rattle.pitch_tool.specs.TextForms.{made, IsMadeOf};
 ghost use Rattle.pitch_tool.specs.layers.Doing.{AreWorkers};
 ghost use Rattle.pitch_tool.specs.layers.Failures.{IsUnmade};
-ghost use Rattle.pitch_tool.specs.declared.job.TextForm.TheVariants.{Replay};
+ghost use Rattle.pitch_words.specs.declared.form.TextWords.TheVariants.{Replay};
 
 use crate::failure::Failure;
 use pitch_io::Gate;

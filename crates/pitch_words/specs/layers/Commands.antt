@@ -2,7 +2,7 @@
 use Rattle.std.specs.Prelude.{◌≡◌, ℕ, ◌≤◌, Bool, true, false, List, [], ◌∷◌, Option, Some, None}
 use Rattle.std.specs.Prelude.{codes, map}
 use Rattle.std.specs.Borrow.{Bor}
-use Rattle.pitch_fields.specs.Limits.{most_held}
+use Rattle.pitch_fields.specs.Limits.{IsHoldLimit}
 use Rattle.clap.specs.Simple.{App, app_of}
 use Rattle.clap.specs.Walk.{Row}
 use Rattle.clap.specs.declared.builder.command.Command.{Command}
@@ -11,9 +11,13 @@ use Rattle.long_options.specs.Words.{Described, Listed, Text}
 use Rattle.long_options.specs.Apps.{command_app, empty_program, program}
 use Rattle.long_options.specs.layers.Finding.{found_options}
 use Rattle.pitch_words.specs.declared.form.Form.{Form}
-use Rattle.pitch_words.specs.declared.form.Form.TheVariants.{Follow, FollowCapture, Show, Pack}
-use Rattle.pitch_words.specs.declared.form.Form.TheVariants.{Replay, Storm, Drill, Demo, Relay}
-use Rattle.pitch_words.specs.declared.form.Form.TheVariants.{Quotes, Audit}
+use Rattle.pitch_words.specs.declared.form.Form.TheVariants as form
+use Rattle.pitch_words.specs.declared.form.Form.TheVariants.{Stream, Storm, Drill, Demo, Audit}
+use Rattle.pitch_words.specs.declared.form.Carried.{Carried}
+use Rattle.pitch_words.specs.declared.form.Carried.TheVariants.{Bare, Capture}
+use Rattle.pitch_words.specs.declared.form.StreamWords.{StreamWords}
+use Rattle.pitch_words.specs.declared.form.StreamWords.TheVariants.{Follow, Show, Relay, Quotes}
+use Rattle.pitch_words.specs.declared.form.TextWords.TheVariants.{Pack, Replay}
 use Rattle.pitch_words.specs.Forms.{follow, show, pack, replay, storm, drill, demo, relay, quotes}
 use Rattle.pitch_words.specs.Forms.{audit, command_of, HasNumbers}
 
@@ -21,25 +25,33 @@ use Rattle.pitch_words.specs.Forms.{audit, command_of, HasNumbers}
 abbrev pub commands : List Described
 commands = follow ∷ show ∷ pack ∷ replay ∷ storm ∷ drill ∷ demo ∷ relay ∷ quotes ∷ audit ∷ []
 
--- the form of `follow` with this switch and these numbers, if they are one
-abbrev pub follow_form : Bool → Option ℕ → ℕ → Option Form
-follow_form true port hold = Some (FollowCapture port hold)
-follow_form false None hold = Some (Follow hold)
-follow_form false (Some port) hold = None
+-- what carries a stream with this switch and this port, if something does
+abbrev pub carried_by : Bool → Option ℕ → Option Carried
+carried_by true port = Some (Capture port)
+carried_by false None = Some Bare
+carried_by false (Some port) = None
 
--- a form's numbers lie within their ranges
+-- a capture carries `follow` alone
+abbrev pub MayCarry : Carried → StreamWords → Type 0
+MayCarry carried (Follow hold) = Unit {0}
+MayCarry carried form = carried ≡ Bare
+
+-- the hold of what is printed of a stream, if it has one, has from 1 to 65,536 places
+abbrev pub HasHoldLimit : StreamWords → Type 0
+HasHoldLimit (Follow hold) = IsHoldLimit hold
+HasHoldLimit Show = Unit {0}
+HasHoldLimit (Relay hold) = IsHoldLimit hold
+HasHoldLimit (Quotes hold) = IsHoldLimit hold
+
+-- a form's numbers lie within their ranges, and what carries it may
 abbrev pub IsInRange : Form → Type 0
-IsInRange (Follow hold) = (1 ≤ hold) × (hold ≤ most_held)
-IsInRange (FollowCapture port hold) = (1 ≤ hold) × (hold ≤ most_held)
-IsInRange Show = Unit {0}
-IsInRange (Pack unit) = (1 ≤ unit) × (unit ≤ 255)
-IsInRange (Replay workers) = (1 ≤ workers) × (workers ≤ 64)
+IsInRange (Stream carried form) = MayCarry carried form × HasHoldLimit form
+IsInRange (form.Text (Pack unit)) = (1 ≤ unit) × (unit ≤ 255)
+IsInRange (form.Text (Replay workers)) = (1 ≤ workers) × (workers ≤ 64)
 IsInRange (Storm number units steps workers) =
     (1 ≤ units × units ≤ 16) × (1 ≤ steps × steps ≤ 10000) × (1 ≤ workers × workers ≤ 64)
 IsInRange (Drill number units count) = (1 ≤ units × units ≤ 16) × (1 ≤ count × count ≤ 100000)
 IsInRange (Demo number count) = (1 ≤ count) × (count ≤ 1000)
-IsInRange (Relay hold) = (1 ≤ hold) × (hold ≤ most_held)
-IsInRange (Quotes hold) = (1 ≤ hold) × (hold ≤ most_held)
 IsInRange Audit = Unit {0}
 
 -- the program as clap's builders make it

@@ -20,13 +20,13 @@ returns-in-None-clause-stops g c = stops_untaken (map string_bytes c.args.words.
 pub returns-in-Some-clause-stops : goal.returns-in-Some-clause-stops
 returns-in-Some-clause-stops g c =
     let words : List (List ℕ) = map string_bytes c.args.words.now in
-    stops_by words c.in-Some.form c.job_of.result (told g.I.Source.left c.args.input.now c.do_job.new.input)
+    stops_by words c.in-Some.form (told g.I.Source.left c.args.input.now c.do_job.new.input)
     (subst (λ (answer : Option Form). MatchOption answer ((form : Form) → IsForm words form → ⊥) (IsForm words)) c.in-Some.is c.in_ok-form.ensures.form)
-    c.job_of.ensures.job c.do_job.ensures.stops
+    c.do_job.ensures.stops
 
 pub returns-in-Some-clause-reads : goal.returns-in-Some-clause-reads
 returns-in-Some-clause-reads g c =
     let words : List (List ℕ) = map string_bytes c.args.words.now in
-    reads_by words c.in-Some.form c.job_of.result (told g.I.Source.left c.args.input.now c.do_job.new.input)
+    reads_by words c.in-Some.form (told g.I.Source.left c.args.input.now c.do_job.new.input)
     (subst (λ (answer : Option Form). MatchOption answer ((form : Form) → IsForm words form → ⊥) (IsForm words)) c.in-Some.is c.in_ok-form.ensures.form)
-    c.job_of.ensures.job c.do_job.ensures.reads
+    c.do_job.ensures.reads
