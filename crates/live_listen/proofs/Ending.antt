@@ -18,6 +18,8 @@ use Rattle.stream_print.specs.TextLaws.{AreTextsAfter, BeginTextsAfter, IsEnd, I
 use Rattle.stream_print.specs.Told.{between}
 use Rattle.stream_print.specs.declared.failure.PrintError.{PrintError}
 use Rattle.stream_print.specs.declared.failure.PrintError.TheVariants as printing
+use Rattle.stream_print.specs.declared.failure.TaskError.{TaskError}
+use Rattle.stream_print.specs.declared.failure.TaskError.TheVariants as task
 use Rattle.stream_print.specs.declared.stream_form.StreamForm.{StreamForm}
 use Rattle.stream_print.specs.declared.stream_form.StreamForm.TheVariants.{Follow}
 use Rattle.stream_print.proofs.Flow.{grows_none}
@@ -27,7 +29,7 @@ use Rattle.live_net.specs.LineCalls.{LineCall, Receive, AddsCall}
 use Rattle.live_net.specs.declared.net.Received.TheVariants as received
 use Rattle.live_listen.specs.Counting.{is_stray, counts_of}
 use Rattle.live_listen.specs.Due.{due, Receives, AreDue}
-use Rattle.live_listen.specs.layers.Failures.{unheard}
+use Rattle.live_listen.specs.layers.Failures.{unprinted, unheard}
 use Rattle.live_listen.specs.Heard.{datagrams_of, heard_in, blocks_heard}
 use Rattle.live_listen.specs.Listening.{Setup, AddsRun, heard_of, lines_shown, BeginsText, HasFailed, IsOver, ListenEnds}
 use Rattle.live_listen.specs.Standing.{Devices, Stands, Steps, NamesNoDevice}
@@ -81,30 +83,29 @@ module _ (H : ℕ) (blocks : List Block) where
 -- ---- Runs that end
 module _ (s : Setup) (start v : Devices) (run : List LineCall) (adds : AddsRun run start.calls v.calls) (due_each : AreDue s.lines run) (shown : HasShown start.written v.written (lines_shown s run)) where
   -- memory ran out, or the sink failed
-  ends_begun : (text : List ℕ) (e : PrintError) → BeginsText s.hold (heard_of s run) text → PutsSome start.written v.written text → ListenEnds s (Err (unheard e)) start.calls v.calls (between start.written v.written)
+  ends_begun : (text : List ℕ) (e : PrintError) → BeginsText s.hold (heard_of s run) text → PutsSome start.written v.written text → ListenEnds s (Err (unprinted e)) start.calls v.calls (between start.written v.written)
   ends_begun text e begins puts = by e
     where
       some : List ℕ
       some = take puts.count text
 
-      by : (e : PrintError) → ListenEnds s (Err (unheard e)) start.calls v.calls (between start.written v.written)
-      by printing.SequencesSpent = record { run = run; text = some; is_run = record { adds = adds; due = due_each; writes = puts.grows; shows = shown }; is_end = begins_less s.hold (heard_of s run) puts.count text begins }
+      by : (e : PrintError) → ListenEnds s (Err (unprinted e)) start.calls v.calls (between start.written v.written)
       by printing.Write = record { run = run; text = some; is_run = record { adds = adds; due = due_each; writes = puts.grows; shows = shown }; is_end = begins_less s.hold (heard_of s run) puts.count text begins }
       by printing.OutOfMemory = record { run = run; text = some; is_run = record { adds = adds; due = due_each; writes = puts.grows; shows = shown }; is_end = begins_less s.hold (heard_of s run) puts.count text begins }
 
   -- the lines of the blocks were not all printed
-  ends_failed : (form : StreamForm) (e : PrintError) (page : List ℕ) → form ≡ Follow s.hold → page ≡ [] → Fails e form [] (heard_of s run) start.written page v.written → ListenEnds s (Err (unheard e)) start.calls v.calls (between start.written v.written)
+  ends_failed : (form : StreamForm) (e : TaskError) (page : List ℕ) → form ≡ Follow s.hold → page ≡ [] → Fails e form [] (heard_of s run) start.written page v.written → ListenEnds s (Err (unheard e)) start.calls v.calls (between start.written v.written)
   ends_failed form e page is empty fails = by e (subst (λ (f : StreamForm). Fails e f [] (heard_of s run) start.written [] v.written) is (subst (λ (p : List ℕ). Fails e form [] (heard_of s run) start.written p v.written) empty fails))
     where
-      puts : (e : PrintError) → PutsSuch (BeginTextsAfter (Follow s.hold) [] (heard_of s run)) start.written [] v.written → ListenEnds s (Err (unheard e)) start.calls v.calls (between start.written v.written)
+      puts : (e : PrintError) → PutsSuch (BeginTextsAfter (Follow s.hold) [] (heard_of s run)) start.written [] v.written → ListenEnds s (Err (unprinted e)) start.calls v.calls (between start.written v.written)
       puts e some =
           let begins = some.such no_venues tt in
           ends_begun some.text e (begins_lines s.hold (heard_of s run) some.text begins.0 begins.1) some.puts
 
-      by : (e : PrintError) → Fails e (Follow s.hold) [] (heard_of s run) start.written [] v.written → ListenEnds s (Err (unheard e)) start.calls v.calls (between start.written v.written)
-      by printing.SequencesSpent outruns = absurd outruns.outruns
-      by printing.Write some = puts printing.Write some
-      by printing.OutOfMemory some = puts printing.OutOfMemory some
+      by : (e : TaskError) → Fails e (Follow s.hold) [] (heard_of s run) start.written [] v.written → ListenEnds s (Err (unheard e)) start.calls v.calls (between start.written v.written)
+      by task.SequencesSpent outruns = absurd outruns.outruns
+      by task.Write some = puts printing.Write some
+      by task.OutOfMemory some = puts printing.OutOfMemory some
 
 -- ---- What a listener that stands has printed
 module _ (s : Setup) (start u : Devices) (l : Listener) (run : List LineCall) (st : Stands s start u l run) where
@@ -142,21 +143,21 @@ module _ (s : Setup) (start u : Devices) (l : Listener) (run : List LineCall) (s
   pub shown_now : (w : Option (List ℕ)) → Grows u.written w l.printer.page.text → HasShown start.written w (lines_after s.hold [] (heard_of s run))
   shown_now w grows = shown_all start.written w (lines_after s.hold [] (heard_of s run)) (subst (Grows start.written w) lines_now (prints_out start.written u.written w l.printer.page.text text_now printed_now grows))
 
-  shown_failing : (v : Devices) (e : PrintError) (blocks : List Block) → FailsBlocks e l.printer u.written v.written blocks → HasShown start.written v.written (lines_shown s run)
+  shown_failing : (v : Devices) (e : TaskError) (blocks : List Block) → FailsBlocks e l.printer u.written v.written blocks → HasShown start.written v.written (lines_shown s run)
   shown_failing v e blocks fails =
       by e (subst (λ (f : StreamForm). Fails e f (reverse (heard_of s run)) blocks u.written l.printer.page.text v.written) form_now (fails (reverse (heard_of s run)) known_now))
     where
-      by : (e : PrintError) → Fails e (Follow s.hold) (reverse (heard_of s run)) blocks u.written l.printer.page.text v.written → HasShown start.written v.written (lines_shown s run)
-      by printing.SequencesSpent outruns = absurd outruns.outruns
-      by printing.Write some = shown_then v.written (l.printer.page.text ++ some.text) some.puts
-      by printing.OutOfMemory some = shown_then v.written (l.printer.page.text ++ some.text) some.puts
+      by : (e : TaskError) → Fails e (Follow s.hold) (reverse (heard_of s run)) blocks u.written l.printer.page.text v.written → HasShown start.written v.written (lines_shown s run)
+      by task.SequencesSpent outruns = absurd outruns.outruns
+      by task.Write some = shown_then v.written (l.printer.page.text ++ some.text) some.puts
+      by task.OutOfMemory some = shown_then v.written (l.printer.page.text ++ some.text) some.puts
 
   -- no memory is left
   pub ends_now : ListenEnds s (Err errors.OutOfMemory) start.calls u.calls (between start.written u.written)
   ends_now = ends_begun s start u run st.adds st.due_each st.shown text_now printing.OutOfMemory begins_now (puts_so_far start.written u.written [] l.printer.page.text text_now printed_now)
 
   -- the sink failed while the page was written out
-  pub ends_unflushed : (v : Devices) (e : PrintError) → v.calls ≡ u.calls → PutsSome u.written v.written l.printer.page.text → ListenEnds s (Err (unheard e)) start.calls v.calls (between start.written v.written)
+  pub ends_unflushed : (v : Devices) (e : PrintError) → v.calls ≡ u.calls → PutsSome u.written v.written l.printer.page.text → ListenEnds s (Err (unprinted e)) start.calls v.calls (between start.written v.written)
   ends_unflushed v e same puts =
       ends_begun s start v run (subst (AddsRun run start.calls) (sym same) st.adds) st.due_each (shown_then v.written l.printer.page.text puts) text_now e begins_now (puts_after start.written u.written v.written [] l.printer.page.text text_now printed_now puts)
 
@@ -175,7 +176,7 @@ module _ (s : Setup) (start u : Devices) (l : Listener) (run : List LineCall) (s
   }
 
   -- a datagram came that was not printed
-  pub ends_unprinted : (v : Devices) (e : PrintError) (line room n : ℕ) (bytes : List ℕ) → AddsCall u.calls v.calls (Receive line room bytes (received.Got n)) → due s.lines run ≡ Some (Receives line room)
+  pub ends_unprinted : (v : Devices) (e : TaskError) (line room n : ℕ) (bytes : List ℕ) → AddsCall u.calls v.calls (Receive line room bytes (received.Got n)) → due s.lines run ≡ Some (Receives line room)
       → FailsBlocks e l.printer u.written v.written (heard_in s.units bytes) → ListenEnds s (Err (unheard e)) start.calls v.calls (between start.written v.written)
   ends_unprinted v e line room n bytes adds is_due fails =
       let call : LineCall = Receive line room bytes (received.Got n) in
@@ -187,7 +188,7 @@ module _ (s : Setup) (start u : Devices) (l : Listener) (run : List LineCall) (s
   -- ---- The books
   -- the sink failed while they were printed
   pub ends_unbooked : (v : Devices) (e : PrintError) → v.calls ≡ u.calls → PutsSuch (IsPrefixOfEnd (task_form l.printer.task) (reverse (heard_of s run))) u.written l.printer.page.text v.written
-      → ListenEnds s (Err (unheard e)) start.calls v.calls (between start.written v.written)
+      → ListenEnds s (Err (unprinted e)) start.calls v.calls (between start.written v.written)
   ends_unbooked v e same some =
       ends_begun s start v run (subst (AddsRun run start.calls) (sym same) st.adds) st.due_each (shown_then v.written (l.printer.page.text ++ some.text) some.puts) (text_now ++ some.text) e
       (begins_books s.hold (heard_of s run) text_now some.text lines_now (subst (λ (f : StreamForm). IsPrefixOfEnd f (reverse (heard_of s run)) some.text) form_now some.such))
@@ -206,7 +207,7 @@ module _ (s : Setup) (start u : Devices) (l : Listener) (run : List LineCall) (s
         (shown_more start.written u.written w (lines_shown s run) (take printed.printed.count (l.printer.page.text ++ printed.text)) st.shown printed.printed.written) grows
 
     -- or at the last page
-    pub ends_unwritten : (v : Devices) (e : PrintError) → v.calls ≡ u.calls → PutsSome w v.written page → ListenEnds s (Err (unheard e)) start.calls v.calls (between start.written v.written)
+    pub ends_unwritten : (v : Devices) (e : PrintError) → v.calls ≡ u.calls → PutsSome w v.written page → ListenEnds s (Err (unprinted e)) start.calls v.calls (between start.written v.written)
     ends_unwritten v e same puts =
         ends_begun s start v run (subst (AddsRun run start.calls) (sym same) st.adds) st.due_each (shown_whole v.written (take puts.count page) puts.grows) (text_now ++ printed.text) e
         (begins_books s.hold (heard_of s run) text_now printed.text lines_now (λ Image Vs honest. ([], sym (books_are Image Vs honest) ∙ sym (append-nil printed.text))))

@@ -11,8 +11,8 @@ use Rattle.stream_print.specs.Carriers.{is_faulty}
 use Rattle.stream_print.specs.Knowing.{task_form}
 use Rattle.stream_print.specs.Printing.{PrintsBlocks, FailsBlocks}
 use Rattle.stream_print.specs.Texts.{texts_by}
-use Rattle.stream_print.specs.declared.failure.PrintError.{PrintError}
-use Rattle.stream_print.specs.declared.failure.PrintError.TheVariants.{OutOfMemory}
+use Rattle.stream_print.specs.declared.failure.TaskError.{TaskError}
+use Rattle.stream_print.specs.declared.failure.TaskError.TheVariants.{OutOfMemory}
 use Rattle.stream_print.specs.declared.printer.Printer.{Printer}
 use Rattle.stream_print.proofs.Streaming.{prints_no_block, prints_blocks_more, fails_more, puts_nothing}
 use Rattle.live_listen.specs.Counting.{is_stray}
@@ -69,7 +69,7 @@ module _ (units : List ℕ) where
         place = refl;
       }
 
-  pub fails_wanted : (e : PrintError) (p : Printer) (u v : Option (List ℕ)) (block : Block) → is_wanted units block ≡ true → FailsBlocks e p u v (block ∷ []) → FailsBlocks e p u v (filter (is_wanted units) (block ∷ []))
+  pub fails_wanted : (e : TaskError) (p : Printer) (u v : Option (List ℕ)) (block : Block) → is_wanted units block ≡ true → FailsBlocks e p u v (block ∷ []) → FailsBlocks e p u v (filter (is_wanted units) (block ∷ []))
   fails_wanted e p u v block is fails = subst (λ (b : Bool). FailsBlocks e p u v (cond b (block ∷ []) [])) (sym is) fails
 
   -- ---- The blocks of some bytes
@@ -93,7 +93,7 @@ module _ (units : List ℕ) where
   pub hearing_end : (f g : Listener) (bytes left : List ℕ) (u v : Option (List ℕ)) → Hearing f g bytes left u v → blocks_of left ≡ [] → HearsBlocks units f g u v (blocks_of bytes)
   hearing_end f g bytes left u v so_far none = subst (HearsBlocks units f g u v) (walked_all bytes left so_far.done so_far.walked none) so_far.hears
 
-  pub hearing_fails : (f g : Listener) (e : PrintError) (bytes left less : List ℕ) (u v w : Option (List ℕ)) (block : Block) → Hearing f g bytes left u v → blocks_of left ≡ block ∷ blocks_of less
+  pub hearing_fails : (f g : Listener) (e : TaskError) (bytes left less : List ℕ) (u v w : Option (List ℕ)) (block : Block) → Hearing f g bytes left u v → blocks_of left ≡ block ∷ blocks_of less
       → FailsBlocks e g.printer v w (filter (is_wanted units) (block ∷ [])) → FailsBlocks e f.printer u w (heard_in units bytes)
   hearing_fails f g e bytes left less u v w block so_far first fails =
       fails_more f.printer g.printer e u v w (heard_in units bytes) (filter (is_wanted units) so_far.done) (filter (is_wanted units) (block ∷ [])) (filter (is_wanted units) (blocks_of less))

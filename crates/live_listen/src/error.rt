@@ -1,7 +1,7 @@
 //! Why a listener ends early.
 
 use pitch_fields::OutOfMemory;
-use stream_print::{PrintError, PutFailed};
+use stream_print::{PrintError, PutFailed, TaskError};
 
 /// Why a listener ends early.
 #[derive(Clone, Copy, PartialEq, Eq)]
@@ -38,16 +38,30 @@ impl From<OutOfMemory> for ListenError {
 
 impl From<PrintError> for ListenError {
     ghost use Rattle.std.specs.Prelude.{◌≡◌};
-    ghost use Rattle.live_listen.specs.layers.Failures.{unheard};
+    ghost use Rattle.live_listen.specs.layers.Failures.{unprinted};
 
-    ghost from_gives = { λ printing error. error ≡ unheard printing };
+    ghost from_gives = { λ printing error. error ≡ unprinted printing };
 
-    // No line of `follow` needs a sequence, so none is ever spent.
     fn from(error: PrintError) -> ListenError {
         match error {
-            PrintError::SequencesSpent => ListenError::OutOfMemory,
             PrintError::Write => ListenError::Write,
             PrintError::OutOfMemory => ListenError::OutOfMemory,
+        }
+    }
+}
+
+impl From<TaskError> for ListenError {
+    ghost use Rattle.std.specs.Prelude.{◌≡◌};
+    ghost use Rattle.live_listen.specs.layers.Failures.{unheard};
+
+    ghost from_gives = { λ failed error. error ≡ unheard failed };
+
+    // No line of `follow` needs a sequence, so none is ever spent.
+    fn from(error: TaskError) -> ListenError {
+        match error {
+            TaskError::SequencesSpent => ListenError::OutOfMemory,
+            TaskError::Write => ListenError::Write,
+            TaskError::OutOfMemory => ListenError::OutOfMemory,
         }
     }
 }

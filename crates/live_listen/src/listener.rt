@@ -23,7 +23,7 @@ use live_net::{LineNet, Received, Woken};
 use pitch_fields::OutOfMemory;
 use pitch_io::Sink;
 use std::alloc::Global;
-use stream_print::{PrintError, Printer, StreamForm};
+use stream_print::{Printer, StreamForm, TaskError};
 use unit_packets::{BlockView, Blocks};
 
 /// What a listener does next, what it has printed and what it has counted.
@@ -76,14 +76,14 @@ impl Listener {
         setup: &ListenSetup,
         block: &BlockView<'_>,
         out: &mut O,
-    ) -> Result<(), PrintError>
+    ) -> Result<(), TaskError>
         ensures hears { OnOk result (
             HearsBlocks setup.now.units self.old self.new (O.written out.old) (O.written out.new)
             (block.now ∷ [])) }
         ensures err { IfErr result (λ error.
             FailsBlocks error self.old.printer (O.written out.old) (O.written out.new)
             (filter (is_wanted setup.now.units) (block.now ∷ []))) }
-        ensures cause { CountsFault O.faults out.old out.new (result ≡ Err PrintError.Write) }
+        ensures cause { CountsFault O.faults out.old out.new (result ≡ Err TaskError.Write) }
     {
         if !setup.wants(block.header().unit) {
             self.stray = one_more(self.stray)?;
@@ -101,7 +101,7 @@ impl Listener {
         setup: &ListenSetup,
         datagram: &[u8],
         out: &mut O,
-    ) -> Result<usize, PrintError>
+    ) -> Result<usize, TaskError>
         ensures hears { OnOk result (
             HearsBlocks setup.now.units self.old self.new (O.written out.old) (O.written out.new)
             (blocks_of datagram.now)) }
@@ -109,7 +109,7 @@ impl Listener {
         ensures err { IfErr result (λ error.
             FailsBlocks error self.old.printer (O.written out.old) (O.written out.new)
             (heard_in setup.now.units datagram.now)) }
-        ensures cause { CountsFault O.faults out.old out.new (result ≡ Err PrintError.Write) }
+        ensures cause { CountsFault O.faults out.old out.new (result ≡ Err TaskError.Write) }
     {
         let mut blocks = Blocks::of_bytes(datagram);
         'next: while let Some(block) = blocks.next_block() {
@@ -125,14 +125,14 @@ impl Listener {
         setup: &ListenSetup,
         datagram: &[u8],
         out: &mut O,
-    ) -> Result<(), PrintError>
+    ) -> Result<(), TaskError>
         ensures hears { OnOk result (
             Hears setup.now.units self.old self.new (O.written out.old) (O.written out.new)
             datagram.now) }
         ensures err { IfErr result (λ error.
             FailsBlocks error self.old.printer (O.written out.old) (O.written out.new)
             (heard_in setup.now.units datagram.now)) }
-        ensures cause { CountsFault O.faults out.old out.new (result ≡ Err PrintError.Write) }
+        ensures cause { CountsFault O.faults out.old out.new (result ≡ Err TaskError.Write) }
     {
         self.datagrams = one_more(self.datagrams)?;
         let rest = self.hear_blocks(alloc, setup, datagram, out)?;

@@ -13,8 +13,8 @@ use Rattle.live_turns.specs.Due.{IsMade}
 use Rattle.live_turns.specs.declared.due.Due.{Due}
 use Rattle.live_units.specs.Coming.{BeginsLiveText, LiveSetup, UnitCame, live_books, live_lines, with_datagram}
 use Rattle.live_units.specs.Units.{HasGrown, LiveEnds, LiveStands, OfLive}
-use Rattle.live_units.specs.declared.error.LiveError.{LiveError}
-use Rattle.live_units.specs.declared.error.LiveError.TheVariants as live
+use Rattle.stream_print.specs.declared.failure.PrintError.{PrintError}
+use Rattle.stream_print.specs.declared.failure.PrintError.TheVariants as printing
 use Rattle.live_units.specs.declared.units.LiveUnits.{LiveUnits}
 use Rattle.live_units.proofs.Hearing.{heard_begun, heard_none}
 use Rattle.live_recovery.specs.Disagreeing.{first_disagreement}
@@ -141,9 +141,9 @@ module _ (s : Setup) (start now : Devices) (r : Recovering) (run : List LiveCall
   ends_spent = ends_puts s start now run (now_of came r.units) st.adds st.runs st.shown errors.OutOfMemory tt (puts_so_far start.written now.written [] r.units.page.text (live_lines s.listens came) st.units.printed)
 
 -- ---- The books
-pub leaves_prefix : (e : LiveError) → LeavesPrefix (unheard e)
-leaves_prefix live.Write = tt
-leaves_prefix live.OutOfMemory = tt
+pub leaves_prefix : (e : PrintError) → LeavesPrefix (unheard e)
+leaves_prefix printing.Write = tt
+leaves_prefix printing.OutOfMemory = tt
 
 module _ (s : Setup) (start now : Devices) (r : Recovering) (end : IsAtEnd s start now r) (now' : Devices) (same : now'.calls ≡ now.calls) (grown : HasGrown now.written now'.written) where
   shown_still : HasShown start.written now'.written (live_lines s.listens (had_come s end.run (now_of end.came r.units) end.stands.runs))
@@ -161,7 +161,7 @@ module _ (s : Setup) (start now : Devices) (r : Recovering) (end : IsAtEnd s sta
     is_end = record { over = end.over; agreed = end.stands.agree.none; text_is = ends.1.0; counts_are = end.stands.counts };
   }
 
-  pub ends_unbooked : (e : LiveError) → LiveEnds s.listens end.came start.written now'.written (Err e) → Ends s (Err (unheard e)) start now'
+  pub ends_unbooked : (e : PrintError) → LiveEnds s.listens end.came start.written now'.written (Err e) → Ends s (Err (unheard e)) start now'
   ends_unbooked e ends = ends_text s start now' end.run (now_of end.came r.units) adds_still end.stands.runs shown_still (unheard e) (leaves_prefix e) ends.0 ends.1.0 ends.1.1
 
 -- ---- Before the first call

@@ -1,9 +1,8 @@
 //! Why a live client ends early.
 
 use crate::copies::Disagreement;
-use live_units::LiveError;
 use pitch_fields::OutOfMemory;
-use stream_print::PutFailed;
+use stream_print::{PrintError, PutFailed};
 
 /// Why a live client ends early.
 #[derive(Clone, Copy, PartialEq, Eq)]
@@ -40,16 +39,16 @@ impl From<OutOfMemory> for RecoverError {
     }
 }
 
-impl From<LiveError> for RecoverError {
+impl From<PrintError> for RecoverError {
     ghost use Rattle.std.specs.Prelude.{◌≡◌};
     ghost use Rattle.live_recovery.specs.layers.Failures.{unheard};
 
-    ghost from_gives = { λ live error. error ≡ unheard live };
+    ghost from_gives = { λ printing error. error ≡ unheard printing };
 
-    fn from(error: LiveError) -> RecoverError {
+    fn from(error: PrintError) -> RecoverError {
         match error {
-            LiveError::Write => RecoverError::Write,
-            LiveError::OutOfMemory => RecoverError::OutOfMemory,
+            PrintError::Write => RecoverError::Write,
+            PrintError::OutOfMemory => RecoverError::OutOfMemory,
         }
     }
 }

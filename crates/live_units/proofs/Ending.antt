@@ -10,7 +10,7 @@ use Rattle.stream_print.specs.declared.putting.PutFailed.{PutFailed}
 use Rattle.stream_print.proofs.Printing.{prints_flushed, prints_whole, prints_more, puts_after, puts_then}
 use Rattle.live_units.specs.Coming.{LiveSetup, UnitCame, BeginsLiveText, live_books, live_lines}
 use Rattle.live_units.specs.Units.{AreBooksTo, BeginBooks, LiveEnds, LiveStands, OfLive}
-use Rattle.live_units.specs.declared.error.LiveError.{LiveError}
+use Rattle.stream_print.specs.declared.failure.PrintError.{PrintError}
 use Rattle.live_units.specs.declared.units.LiveUnits.{LiveUnits}
 
 -- the page was written out
@@ -48,14 +48,14 @@ module _ (s : LiveSetup) (came : List UnitCame) where
   pub begun_lines : (start now : Option (List ℕ)) → PutsSome start now (live_lines s came) → WritesBegun start now
   begun_lines start now puts = puts_begun start now (live_lines s came) (record { lines = ([], ([], refl)); honest = λ Vs honest. (live_books s Vs came, refl) }) puts
 
-  ends_begun : (start now : Option (List ℕ)) (result : Result (Unit {0}) LiveError) → IsErr result → WritesBegun start now → LiveEnds s came start now result
+  ends_begun : (start now : Option (List ℕ)) (result : Result (Unit {0}) PrintError) → IsErr result → WritesBegun start now → LiveEnds s came start now result
   ends_begun start now (Ok done) failed begun = absurd (true≢false (sym failed))
   ends_begun start now (Err error) failed begun = begun
 
   -- ---- The end
   module _ (l : LiveUnits) (start w : Option (List ℕ)) (st : LiveStands s start w l came) where
     -- a book was not printed
-    pub ends_unbooked : (v : Option (List ℕ)) (result : Result (Unit {0}) LiveError) → IsErr result → PutsSuch (BeginBooks s came) w l.page.text v → LiveEnds s came start v result
+    pub ends_unbooked : (v : Option (List ℕ)) (result : Result (Unit {0}) PrintError) → IsErr result → PutsSuch (BeginBooks s came) w l.page.text v → LiveEnds s came start v result
     ends_unbooked v result failed begun =
         ends_begun start v result failed
         (puts_begun start v (live_lines s came ++ begun.text) (begins_books begun.text begun.such) (puts_then start w v [] l.page.text (live_lines s came) begun.text st.printed begun.puts))
@@ -65,7 +65,7 @@ module _ (s : LiveSetup) (came : List UnitCame) where
       whole = prints_more start w v [] l.page.text page (live_lines s came) books.text st.printed books.printed
 
       -- the last page was not written
-      pub ends_unwritten : (result : Result (Unit {0}) LiveError) → IsErr result → PutsSome v z page → LiveEnds s came start z result
+      pub ends_unwritten : (result : Result (Unit {0}) PrintError) → IsErr result → PutsSome v z page → LiveEnds s came start z result
       ends_unwritten result failed puts =
           ends_begun start z result failed
           (puts_begun start z (live_lines s came ++ books.text)

@@ -15,8 +15,8 @@ use Rattle.stream_print.proofs.Printing.{puts_longer}
 use Rattle.live_units.specs.Coming.{HasBeatsAlone, LiveSetup, UnitCame, block_count, came_to, end_setup, has_unit, live_lines, passed_of, to_unit, with_blocks, with_came, with_datagram}
 use Rattle.live_units.specs.LiveText.{came_text}
 use Rattle.live_units.specs.Units.{AllWait, HasGrown, LiveStands, OfLive}
-use Rattle.live_units.specs.declared.error.LiveError.{LiveError}
-use Rattle.live_units.specs.declared.error.LiveError.TheVariants as live
+use Rattle.stream_print.specs.declared.failure.PrintError.{PrintError}
+use Rattle.stream_print.specs.declared.failure.PrintError.TheVariants as printing
 use Rattle.live_units.specs.declared.units.LiveUnits.{LiveUnits}
 use Rattle.live_units.proofs.Growing.{grown_more, grown_none}
 
@@ -78,10 +78,10 @@ all_at [] ys x all = all.0
 all_at (y ∷ xs) ys x all = all_at xs ys x all.1
 
 -- the error that a `?` answers is that of the call
-pub not_memory : {A B : Type 0} (answer : Result A LiveError) (error : LiveError) → IsErr answer × IsErrAnd answer (λ e. e ≡ error) → ◌≢◌ {A = Result B LiveError} (Err error) (Err live.OutOfMemory) → ◌≢◌ {A = Result A LiveError} answer (Err live.OutOfMemory)
+pub not_memory : {A B : Type 0} (answer : Result A PrintError) (error : PrintError) → IsErr answer × IsErrAnd answer (λ e. e ≡ error) → ◌≢◌ {A = Result B PrintError} (Err error) (Err printing.OutOfMemory) → ◌≢◌ {A = Result A PrintError} answer (Err printing.OutOfMemory)
 not_memory (Ok done) error is other = absurd (true≢false (sym is.0))
 not_memory (Err e) error is other = λ same.
-    let here : e ≡ live.OutOfMemory = cc in
+    let here : e ≡ printing.OutOfMemory = cc in
     other (ap Err (sym is.1 ∙ here))
 
 -- ---- A loop over the blocks of a datagram

@@ -16,7 +16,7 @@ use Rattle.live_units.specs.Coming.{block_count, books_below, end_setup, has_uni
 use Rattle.live_units.specs.Coming.{live_lines, state_at, to_unit, with_came, with_loss}
 use Rattle.live_units.specs.Places.{IsUnitAt, waits_at}
 use Rattle.live_units.specs.Standing.{IsTaken}
-use Rattle.live_units.specs.declared.error.LiveError.{LiveError}
+use Rattle.stream_print.specs.declared.failure.PrintError.{PrintError}
 use Rattle.live_units.specs.declared.unit.Taken.{Taken}
 use Rattle.live_units.specs.declared.units.LiveUnits.{LiveUnits}
 
@@ -130,7 +130,7 @@ BeginBooks s came text = (Vs : ℕ → List Raw) → AreHonest s Vs came
 
 -- by the answer, the whole text was written from the start, or a prefix of it
 abbrev pub LiveEnds : LiveSetup → List UnitCame → Option (List ℕ) → Option (List ℕ)
-    → Result (Unit {0}) LiveError → Type 0
+    → Result (Unit {0}) PrintError → Type 0
 LiveEnds s came start now (Ok done) =
     (text : List ℕ) × (IsLiveText s came text × Grows start now text)
 LiveEnds s came start now (Err error) =

@@ -1,3 +1,2 @@
 -- What only the layers tell one another: no top call needs it.
-pub mod Failures
 pub mod Laws

@@ -4,14 +4,12 @@
 #![tactic(auto)]
 
 mod ended;
-mod error;
 mod laws;
 mod line;
 mod place;
 mod unit;
 mod units;
 
-pub use crate::error::LiveError;
 pub use crate::laws::{a_unit_ends_at_its_venues_end, blocks_alone_print_what_follow_does};
 pub use crate::unit::{LiveUnit, Taken};
 pub use crate::units::LiveUnits;

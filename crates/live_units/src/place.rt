@@ -11,13 +11,12 @@ ghost use Rattle.live_units.specs.Places.{IsUnitAt, IsNewAt, IsTextAt, AtPlace, 
 ghost use Rattle.live_units.specs.Places.{waits_at};
 ghost use Rattle.live_units.specs.Standing.{UnitPasses, UnitStays, UnitLoses, UnitSends};
 
-use crate::error::LiveError;
 use crate::unit::{LiveUnit, Taken};
 use pitch_fields::{HoldLimit, OutOfMemory};
 use pitch_io::Sink;
 use sending_end::{Account, Session};
 use std::alloc::Global;
-use stream_print::{Page, PutFailed};
+use stream_print::{Page, PrintError, PutFailed};
 use unit_packets::BlockView;
 
 // Whether a unit is named, or none is.
@@ -55,13 +54,13 @@ pub(crate) fn hear_at<O: Sink>(
     block: &BlockView<'_>,
     page: &mut Page,
     out: &mut O,
-) -> Result<bool, LiveError>
+) -> Result<bool, PrintError>
     ensures hears { OnOk result (HearsAt number block.now place.old place.new
         (O.written out.old) (O.written out.new) page.old.text page.new.text) }
     ensures there { IfOk result (λ there. there ≡ is_some place.old) }
     ensures err { OnErr result (PutsPrefix O.written out.old out.new page.old.text) }
-    ensures cause { CountsFault O.faults out.old out.new (result ≡ Err LiveError.Write) }
-    ensures heartbeat { block.now.raws ≡ [] → result ≢ Err LiveError.OutOfMemory }
+    ensures cause { CountsFault O.faults out.old out.new (result ≡ Err PrintError.Write) }
+    ensures heartbeat { block.now.raws ≡ [] → result ≢ Err PrintError.OutOfMemory }
 {
     match place {
         None => Ok(false),
@@ -155,7 +154,7 @@ pub(crate) fn print_at<O: Sink>(
     place: &Option<LiveUnit>,
     page: &mut Page,
     out: &mut O,
-) -> Result<(), LiveError>
+) -> Result<(), PrintError>
     // Whatever came to the unit, the book that it has by that was printed.
     ensures printed { OnOk result ((s : LiveSetup) (came : List UnitCame) (unit : ℕ)
         → IsUnitAt s came unit place.now → PagePrintsSuch (IsTextAt s came unit)
@@ -163,7 +162,7 @@ pub(crate) fn print_at<O: Sink>(
     ensures err { OnErr result ((s : LiveSetup) (came : List UnitCame) (unit : ℕ)
         → IsUnitAt s came unit place.now → PutsPrefixSuch (IsTextAt s came unit)
         O.written out.old out.new page.old) }
-    ensures cause { CountsFault O.faults out.old out.new (result ≡ Err LiveError.Write) }
+    ensures cause { CountsFault O.faults out.old out.new (result ≡ Err PrintError.Write) }
 {
     match place {
         None => Ok(()),

@@ -15,13 +15,12 @@ ghost use Rattle.live_units.specs.Ended.{is_ended};
 ghost use Rattle.live_units.specs.LiveText.{is_told_of, moved_text};
 
 use crate::ended::after_block;
-use crate::error::LiveError;
 use crate::line::print_image;
 use pitch_fields::{HoldLimit, OutOfMemory};
 use pitch_io::Sink;
 use sending_end::{Account, SendingEnd, Session};
 use std::alloc::Global;
-use stream_print::{Page, PutFailed, print_book};
+use stream_print::{Page, PrintError, PutFailed, print_book};
 use unit_packets::BlockView;
 
 /// What became of bytes of a session.
@@ -77,15 +76,15 @@ impl LiveUnit {
         block: &BlockView<'_>,
         page: &mut Page,
         out: &mut O,
-    ) -> Result<(), LiveError>
+    ) -> Result<(), PrintError>
         ensures stands { OnOk result (ComesTo self.old self.new (Heard block.now)) }
         ensures waits { OnOk result (WaitsStill self.old.end self.new.end) }
         ensures printed { OnOk result (OfUnit self.old (λ s before.
             PagePrints O.written out.old out.new page.old page.new
             (line_at s.hold number block.now (end_history s before)))) }
         ensures err { OnErr result (PutsPrefix O.written out.old out.new page.old.text) }
-        ensures cause { CountsFault O.faults out.old out.new (result ≡ Err LiveError.Write) }
-        ensures heartbeat { block.now.raws ≡ [] → result ≢ Err LiveError.OutOfMemory }
+        ensures cause { CountsFault O.faults out.old out.new (result ≡ Err PrintError.Write) }
+        ensures heartbeat { block.now.raws ≡ [] → result ≢ Err PrintError.OutOfMemory }
     {
         page.make_place(out)?;
         let change = self.end.hear_block(block)?;
@@ -227,13 +226,13 @@ impl LiveUnit {
         alloc: Global,
         page: &mut Page,
         out: &mut O,
-    ) -> Result<(), LiveError>
+    ) -> Result<(), PrintError>
         // Whatever came to the unit, the book that it has by that was printed.
         ensures printed { OnOk result (OfUnit self.now (λ s before.
             PagePrintsSuch (IsBookText s before) O.written out.old out.new page.old page.new)) }
         ensures err { OnErr result (OfUnit self.now (λ s before.
             PutsPrefixSuch (IsBookText s before) O.written out.old out.new page.old)) }
-        ensures cause { CountsFault O.faults out.old out.new (result ≡ Err LiveError.Write) }
+        ensures cause { CountsFault O.faults out.old out.new (result ≡ Err PrintError.Write) }
     {
         if !self.is_told_of() {
             return Ok(());
@@ -245,7 +244,6 @@ impl LiveUnit {
             self.unit,
             self.end.reach(),
             self.end.book(),
-        )?;
-        Ok(())
+        )
     }
 }

@@ -17,7 +17,6 @@ ghost use Rattle.live_units.specs.Units.{AreBooksTo, BeginBooks, OfLive, LiveSta
 ghost use Rattle.live_units.specs.Units.{AllWait, PassesAt, StayAll, LosesAt, TakesBytes, SendsAt};
 ghost use Rattle.live_units.specs.Units.{HasGrown, NoneWaitAtAll, waiting_at};
 
-use crate::error::LiveError;
 use crate::place::{
     connect_at, cut_at, hear_at, listen_at, print_at, second_at, sent_at, take_at, waiting_at,
 };
@@ -27,7 +26,7 @@ use pitch_fields::{HoldLimit, OutOfMemory};
 use pitch_io::Sink;
 use sending_end::{Account, Passed, Session};
 use std::alloc::Global;
-use stream_print::{PIECE, Page, PutFailed};
+use stream_print::{PIECE, Page, PrintError, PutFailed};
 use unit_clients::UnitTable;
 use unit_packets::{BlockView, Blocks};
 
@@ -66,7 +65,7 @@ fn print_books<O: Sink>(
     places: &[Option<LiveUnit>],
     page: &mut Page,
     out: &mut O,
-) -> Result<(), LiveError>
+) -> Result<(), PrintError>
     requires many { length places.now ≡ 256 }
     // Whatever came to the units, the books that they have by that were printed.
     ensures printed { OnOk result ((s : LiveSetup) (came : List UnitCame)
@@ -75,7 +74,7 @@ fn print_books<O: Sink>(
     ensures err { OnErr result ((s : LiveSetup) (came : List UnitCame)
         → AtEach (IsUnitAt s came) places.now → PutsPrefixSuch (BeginBooks s came)
         O.written out.old out.new page.old) }
-    ensures cause { CountsFault O.faults out.old out.new (result ≡ Err LiveError.Write) }
+    ensures cause { CountsFault O.faults out.old out.new (result ≡ Err PrintError.Write) }
 {
     'units: for unit in 0..places.len() {
         print_at(alloc, &places[unit], page, out)?;
@@ -116,7 +115,11 @@ impl LiveUnits {
 
     // A block came on a line: its line is printed, where its unit is listened to. Answers whether
     // it is.
-    fn hear_block<O: Sink>(&mut self, block: &BlockView<'_>, out: &mut O) -> Result<bool, LiveError>
+    fn hear_block<O: Sink>(
+        &mut self,
+        block: &BlockView<'_>,
+        out: &mut O,
+    ) -> Result<bool, PrintError>
         ensures hears { OnOk result (OfLive self.old (O.written out.old) (λ s start came.
             LiveStands s start (O.written out.new) self.new
             (with_came s (to_unit block.now.unit (Heard block.now)) came))) }
@@ -125,15 +128,15 @@ impl LiveUnits {
             (λ s start came. there ≡ has_unit s block.now.unit)) }
         ensures err { OnErr result (OfLive self.old (O.written out.old) (λ s start came.
             PutsSome start (O.written out.new) (live_lines s came))) }
-        ensures cause { CountsFault O.faults out.old out.new (result ≡ Err LiveError.Write) }
+        ensures cause { CountsFault O.faults out.old out.new (result ≡ Err PrintError.Write) }
         ensures grows { OfLive self.old (O.written out.old) (λ s start came.
             HasGrown (O.written out.old) (O.written out.new)) }
         ensures number { OnOk result (self.new.number ≤ self.old.number + 1) }
         ensures heartbeat { block.now.raws ≡ [] → self.old.number + 1 < 2 ^ 64
-            → result ≢ Err LiveError.OutOfMemory }
+            → result ≢ Err PrintError.OutOfMemory }
     {
         let Some(number) = self.number.checked_add(1) else {
-            return Err(LiveError::OutOfMemory);
+            return Err(PrintError::OutOfMemory);
         };
         let heard = hear_at(
             self.units.place_of(block),
@@ -153,7 +156,11 @@ impl LiveUnits {
     /// other units, and how many bytes follow the last whole one.
     ///
     /// `OutOfMemory` is also what a block would be answered behind 2^64 - 1 that were heard.
-    pub fn hear_datagram<O: Sink>(&mut self, bytes: &[u8], out: &mut O) -> Result<Passed, LiveError>
+    pub fn hear_datagram<O: Sink>(
+        &mut self,
+        bytes: &[u8],
+        out: &mut O,
+    ) -> Result<Passed, PrintError>
         ensures hears { OnOk result (OfLive self.old (O.written out.old) (λ s start came.
             LiveStands s start (O.written out.new) self.new (with_datagram s bytes.now came))) }
         ensures waits { OnOk result (AllWait self.old self.new) }
@@ -161,11 +168,11 @@ impl LiveUnits {
             (λ s start came. passed ≡ passed_of s bytes.now)) }
         ensures err { OnErr result (OfLive self.old (O.written out.old) (λ s start came.
             PutsSome start (O.written out.new) (live_lines s (with_datagram s bytes.now came)))) }
-        ensures cause { CountsFault O.faults out.old out.new (result ≡ Err LiveError.Write) }
+        ensures cause { CountsFault O.faults out.old out.new (result ≡ Err PrintError.Write) }
         ensures grows { OfLive self.old (O.written out.old) (λ s start came.
             HasGrown (O.written out.old) (O.written out.new)) }
         ensures heartbeats { OfLive self.old (O.written out.old) (λ s start came.
-            HasBeatsAlone bytes.now came → result ≢ Err LiveError.OutOfMemory) }
+            HasBeatsAlone bytes.now came → result ≢ Err PrintError.OutOfMemory) }
     {
         let mut heard = 0;
         let mut others = 0;
@@ -301,13 +308,13 @@ impl LiveUnits {
 
     /// Prints the books of all units that were told of, by rising number, and writes out all that
     /// was printed.
-    pub fn finish<O: Sink>(&mut self, alloc: Global, out: &mut O) -> Result<(), LiveError>
+    pub fn finish<O: Sink>(&mut self, alloc: Global, out: &mut O) -> Result<(), PrintError>
         // Whatever came, the whole text was written, or a prefix of it, as the answer says.
         ensures ends { OfLive self.old (O.written out.old) (λ s start came.
             LiveEnds s came start (O.written out.new) result) }
         ensures grows { OfLive self.old (O.written out.old) (λ s start came.
             HasGrown (O.written out.old) (O.written out.new)) }
-        ensures cause { CountsFault O.faults out.old out.new (result ≡ Err LiveError.Write) }
+        ensures cause { CountsFault O.faults out.old out.new (result ≡ Err PrintError.Write) }
     {
         print_books(alloc, self.units.places(), &mut self.page, out)?;
         self.page.flush(out)?;

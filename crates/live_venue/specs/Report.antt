@@ -65,7 +65,6 @@ IsUnwritten answer = ⊥
 abbrev pub unreported : Option InputFault → PrintError → ReportError
 unreported fault printing.Write = Write fault
 unreported fault printing.OutOfMemory = Serve errors.OutOfMemory
-unreported fault printing.SequencesSpent = Serve errors.OutOfMemory
 
 -- what was written of the report, by the answer: all of it where the run was over and where the
 -- input has a fault, nothing where the net failed, and else some prefix

@@ -1,6 +1,6 @@
 //! The books of all units, which are reported once a run is over.
 
-ghost use Rattle.std.specs.Prelude.{◌≡◌, ◌≢◌, ◌↔◌, ◌⊎◌, ◌++◌, Err, IfErr, List, OnErr, OnOk};
+ghost use Rattle.std.specs.Prelude.{◌≡◌, ◌↔◌, ◌⊎◌, ◌++◌, Err, IfErr, List, OnErr, OnOk};
 ghost use Rattle.std.specs.Prelude.{Option};
 ghost use Rattle.pitch_io.specs.Putting.{Grows};
 ghost use Rattle.stream_print.specs.Sinks.{CountsFault, PagePrints, PutsPrefix};
@@ -31,7 +31,6 @@ fn print_served<O: Sink>(
         PagePrints O.written out.old out.new page.old page.new (served_book s came at))) }
     ensures err { OnErr result (OfUnits units.now (λ s came.
         PutsPrefix O.written out.old out.new (page.old.text ++ served_book s came at))) }
-    ensures unspent { result ≢ Err PrintError.SequencesSpent }
     ensures cause { CountsFault O.faults out.old out.new (result ≡ Err PrintError.Write) }
 {
     match units.end_at(at) {
@@ -52,7 +51,6 @@ fn print_numbered<O: Sink>(
         PagePrints O.written out.old out.new page.old page.new (numbered_book s came unit))) }
     ensures err { OnErr result (OfUnits units.now (λ s came.
         PutsPrefix O.written out.old out.new (page.old.text ++ numbered_book s came unit))) }
-    ensures unspent { result ≢ Err PrintError.SequencesSpent }
     ensures cause { CountsFault O.faults out.old out.new (result ≡ Err PrintError.Write) }
 {
     match units.index_of(unit) {
@@ -72,7 +70,6 @@ fn print_all<O: Sink>(
         PagePrints O.written out.old out.new page.old page.new (report_text s came))) }
     ensures err { OnErr result (OfUnits units.now (λ s came.
         PutsPrefix O.written out.old out.new (page.old.text ++ report_text s came))) }
-    ensures unspent { result ≢ Err PrintError.SequencesSpent }
     ensures cause { CountsFault O.faults out.old out.new (result ≡ Err PrintError.Write) }
 {
     'units: for number in 0..256u16 {
@@ -87,7 +84,6 @@ fn write_all<O: Sink>(alloc: Global, units: &VenueUnits, out: &mut O) -> Result<
         Grows (O.written out.old) (O.written out.new) (report_text s came))) }
     ensures err { OnErr result (OfUnits units.now (λ s came.
         PutsPrefix O.written out.old out.new (report_text s came))) }
-    ensures unspent { result ≢ Err PrintError.SequencesSpent }
     ensures cause { CountsFault O.faults out.old out.new (result ≡ Err PrintError.Write) }
 {
     let mut page = Page::make(alloc, PIECE + LINE)?;
@@ -103,8 +99,6 @@ fn unreported(fault: Option<InputFault>, error: PrintError) -> ReportError
     match error {
         PrintError::Write => ReportError::Write(fault),
         PrintError::OutOfMemory => ReportError::Serve(ServeError::OutOfMemory),
-        // A book needs no sequence, so none is ever spent.
-        PrintError::SequencesSpent => ReportError::Serve(ServeError::OutOfMemory),
     }
 }
 

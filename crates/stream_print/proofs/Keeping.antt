@@ -6,7 +6,7 @@ use Rattle.std.proofs.lemmas.List.{append-nil, take-append-drop, length-take, le
 use Rattle.std.proofs.Math.ListN.{drop_of_length-le}
 use Rattle.pitch_io.specs.Putting.{Grows}
 use Rattle.stream_print.specs.Carriers.{carried_blocks}
-use Rattle.stream_print.specs.layers.Failures.{unprinted}
+use Rattle.stream_print.specs.layers.Failures.{undone}
 use Rattle.stream_print.specs.layers.Feeding.{Fed, StreamFeeds}
 use Rattle.stream_print.specs.Inputs.{lasting_trouble, StreamEnds, Refuses, WritesSome}
 use Rattle.stream_print.specs.Knowing.{task_form}
@@ -17,8 +17,8 @@ use Rattle.stream_print.specs.Readers.{blocks_with}
 use Rattle.stream_print.specs.Texts.{BeginTexts}
 use Rattle.stream_print.specs.Told.{between}
 use Rattle.stream_print.specs.declared.carrier.Carrier.{Carrier}
-use Rattle.stream_print.specs.declared.failure.PrintError.{PrintError}
-use Rattle.stream_print.specs.declared.failure.PrintError.TheVariants.{SequencesSpent, Write, OutOfMemory}
+use Rattle.stream_print.specs.declared.failure.TaskError.{TaskError}
+use Rattle.stream_print.specs.declared.failure.TaskError.TheVariants.{SequencesSpent, Write, OutOfMemory}
 use Rattle.stream_print.specs.declared.failure.StreamFailure.{StreamFailure}
 use Rattle.stream_print.specs.declared.failure.StreamTrouble.{StreamTrouble}
 use Rattle.stream_print.specs.declared.failure.StreamTrouble.TheVariants.{TooLong}
@@ -44,11 +44,11 @@ writes_kept k carrier form first now start v bytes piece read puts =
     (subst (λ (l : List ℕ). PutsSuch (BeginTexts form (carried_blocks carrier l)) start [] v) (whole k bytes piece) (puts_texts carrier form start v (bytes ++ take k piece) (drop k piece) puts))
 
 -- the piece was not printed whole
-pub kept_fails : (k : ℕ) (carrier : Carrier) (f : Printer) (e : PrintError) (most : ℕ) (first now start u v : Option (List ℕ)) (r : StreamReader) (bytes piece : List ℕ) → k + length bytes ≤ 1073741824 → Fed carrier (task_form f.task) start u f r bytes
-    → Consumes first now (bytes ++ piece) → FailsBlocks e f u v (blocks_with r (take k piece)) → StreamEnds carrier (task_form f.task) most (Err (unprinted e)) (between first now) (between start v)
+pub kept_fails : (k : ℕ) (carrier : Carrier) (f : Printer) (e : TaskError) (most : ℕ) (first now start u v : Option (List ℕ)) (r : StreamReader) (bytes piece : List ℕ) → k + length bytes ≤ 1073741824 → Fed carrier (task_form f.task) start u f r bytes
+    → Consumes first now (bytes ++ piece) → FailsBlocks e f u v (blocks_with r (take k piece)) → StreamEnds carrier (task_form f.task) most (Err (undone e)) (between first now) (between start v)
 kept_fails k carrier f e most first now start u v r bytes piece small fed read fails = by e (fails (reverse (carried_blocks carrier bytes)) fed.known)
   where
-    by : (e : PrintError) → Fails e (task_form f.task) (reverse (carried_blocks carrier bytes)) (blocks_with r (take k piece)) u f.page.text v → StreamEnds carrier (task_form f.task) most (Err (unprinted e)) (between first now) (between start v)
+    by : (e : TaskError) → Fails e (task_form f.task) (reverse (carried_blocks carrier bytes)) (blocks_with r (take k piece)) u f.page.text v → StreamEnds carrier (task_form f.task) most (Err (undone e)) (between first now) (between start v)
     by SequencesSpent spent =
         never_spent carrier (task_form f.task) start u f r bytes (take k piece) fed (omega (arith, length-append bytes (take k piece), length-take k piece, small)) spent
     by Write puts = writes_kept k carrier (task_form f.task) first now start v bytes piece read (fed_fails carrier (task_form f.task) start u v f r bytes (take k piece) fed puts)

@@ -12,7 +12,7 @@ use Rattle.unit_packets.specs.Causes.{counted}
 use Rattle.unit_packets.specs.Cutting.{blocks_of, rest_of}
 use Rattle.pcap_feed.specs.Capture.{Packet, is_cut_off, judge_head, judge_record, ordered, begin_of, front_of, packets_from, left_from, order_told_from}
 use Rattle.pcap_feed.specs.Datagrams.{span_bytes, payloads_in, payloads_of}
-use Rattle.pcap_feed.specs.Feeding.{Capturing, headed, past_head_by, past_head}
+use Rattle.pcap_feed.specs.Feeding.{Capturing, headed, past_head_by, past_head, put_behind}
 use Rattle.pcap_feed.specs.layers.Lent.{StandsAtFront}
 use Rattle.pcap_feed.specs.Payload.{payload}
 use Rattle.pcap_feed.specs.Stream.{items_within, left_over}
@@ -23,11 +23,11 @@ use Rattle.pcap_feed.proofs.Fronts.{IsFinal, front_err, records_are_fronts}
 use Rattle.pcap_feed.proofs.Streams.{first_of, none_of}
 use Rattle.stream_print.specs.Carriers.{blocks_in, is_faulty}
 use Rattle.stream_print.specs.Counting.{IsCount, CountsMore, counts_with, use_of}
-use Rattle.stream_print.specs.Printing.{PrintsBlocks, FailsBlocks, PrintsWhole, PrintsDatagrams, PrintsPackets, PrintsFrom, PrintsLoaded}
+use Rattle.stream_print.specs.Printing.{PrintsBlocks, FailsBlocks, PrintsWhole, PrintsDatagrams, PrintsPackets, PrintsLoaded}
 use Rattle.stream_print.specs.declared.counts.PacketCounts.{PacketCounts}
 use Rattle.stream_print.specs.declared.counts.PacketUse.{PacketUse}
 use Rattle.stream_print.specs.declared.counts.PacketUse.TheVariants.{PassedOver, Used, Faulty}
-use Rattle.stream_print.specs.declared.failure.PrintError.{PrintError}
+use Rattle.stream_print.specs.declared.failure.TaskError.{TaskError}
 use Rattle.stream_print.specs.declared.packets.PacketReader.{PacketReader}
 use Rattle.stream_print.specs.declared.printer.Printer.{Printer}
 use Rattle.stream_print.proofs.Carriers.{blocks_append}
@@ -77,12 +77,8 @@ sound_printed p p' d n size w w' whole le some all =
       few = omega (arith, few, within, le);
     }
 
-pub datagram_fails : (p : Printer) (e : PrintError) (d : List ℕ) (w w' : Option (List ℕ)) → FailsBlocks e p w w' (blocks_of d) → FailsBlocks e p w w' (flat_map blocks_of (d ∷ []))
+pub datagram_fails : (p : Printer) (e : TaskError) (d : List ℕ) (w w' : Option (List ℕ)) → FailsBlocks e p w w' (blocks_of d) → FailsBlocks e p w w' (flat_map blocks_of (d ∷ []))
 datagram_fails p e d w w' fails = subst (FailsBlocks e p w w') (sym (one_datagram d)) fails
-
--- a packet may have more bytes than its datagram
-pub in_packet : (p p' : Printer) (n size : ℕ) (datagrams : List (List ℕ)) (is : PacketUse) (w w' : Option (List ℕ)) → n ≤ size → PrintsDatagrams p p' n datagrams is w w' → PrintsDatagrams p p' size datagrams is w w'
-in_packet p p' n size datagrams is w w' le d = let few = d.few in record { prints = d.prints; use_is = d.use_is; few = omega (arith, few, le) }
 
 -- ---- The counts
 counted_more : (n m : ℕ) → n ≡ counted m → counted (n + 1) ≡ counted (m + 1)
@@ -219,7 +215,7 @@ packet_within order bytes rest at packet here stands within =
     omega (arith, fits.1, ap length here, length-drop at bytes, within)
 
 -- a packet that is not printed, behind others
-pub passing_fails : (order : ByteOrder) (port : Option ℕ) (f g : Printer) (e : PrintError) (counts counts' : PacketCounts) (bytes rest : List ℕ) (at : ℕ) (u v w : Option (List ℕ)) (packet : Packet)
+pub passing_fails : (order : ByteOrder) (port : Option ℕ) (f g : Printer) (e : TaskError) (counts counts' : PacketCounts) (bytes rest : List ℕ) (at : ℕ) (u v w : Option (List ℕ)) (packet : Packet)
     → Passing order port f g counts counts' bytes at u v → rest ≡ drop at bytes → StandsAtFront order rest packet → FailsBlocks e g v w (flat_map blocks_of (payloads_in port packet))
     → FailsBlocks e f u w (blocks_in port (items_within (front_of order) bytes))
 passing_fails order port f g e counts counts' bytes rest at u v w packet so_far here stands fails =
@@ -280,21 +276,20 @@ head_short r s is = omega (arith, ap (λ (q : Capturing). length q.rest) is, by 
     by r (Some order) = omega arith
 
 -- the packets behind the header were printed
-pub loaded_from : (p p' : Printer) (r s t : PacketReader) (order : ByteOrder) (w w' : Option (List ℕ)) → s ≡ record r { reader = past_head r.reader } → ordered r.reader.told r.reader.rest ≡ Ok order
-    → PrintsFrom order p p' s t w w' → PrintsLoaded p p' r t w w'
-loaded_from p p' r s t order w w' is ok from =
+pub loaded_from : (p p' : Printer) (r s t : PacketReader) (order : ByteOrder) (behind : ℕ) (w w' : Option (List ℕ)) → s ≡ record r { reader = past_head r.reader } → ordered r.reader.told r.reader.rest ≡ Ok order
+    → PrintsPackets order s.port p p' s.counts t.counts s.reader.rest behind w w' → t.reader ≡ put_behind s.reader behind → t.port ≡ s.port → PrintsLoaded p p' r t w w'
+loaded_from p p' r s t order behind w w' is ok printed passed same =
     let h = heads r.reader s.reader order r.reader.told refl (ap (λ (q : PacketReader). q.reader) is) ok in
     let read = read_of r.reader.told r.reader.rest order ok in
     let port : s.port ≡ r.port = ap (λ (q : PacketReader). q.port) is in
     let counts : s.counts ≡ r.counts = ap (λ (q : PacketReader). q.counts) is in
-    let printed = from.printed in
     let packets : items_within (front_of order) s.reader.rest ≡ packets_from r.reader.told r.reader.rest = ap (items_within (front_of order)) h.rest ∙ sym read.packets in
     let left : t.reader.rest ≡ left_from r.reader.told r.reader.rest =
-    ap (λ (q : Capturing). q.rest) from.reader ∙ sym printed.rest ∙ ap (left_over (front_of order)) h.rest ∙ sym read.left in
+    ap (λ (q : Capturing). q.rest) passed ∙ sym printed.rest ∙ ap (left_over (front_of order)) h.rest ∙ sym read.left in
     let few = printed.few in
     let within = printed.within in
     let begin = h.within in
-    let size : length t.reader.rest ≡ length s.reader.rest - from.behind = ap length (ap (λ (q : Capturing). q.rest) from.reader) ∙ length-drop from.behind s.reader.rest in
+    let size : length t.reader.rest ≡ length s.reader.rest - behind = ap length (ap (λ (q : Capturing). q.rest) passed) ∙ length-drop behind s.reader.rest in
     let size' : length s.reader.rest ≡ length r.reader.rest - begin_of r.reader.told = ap length h.rest ∙ length-drop (begin_of r.reader.told) r.reader.rest in
     record {
       prints = subst (λ (o : Option ℕ). PrintsBlocks p p' w w' (blocks_in o (packets_from r.reader.told r.reader.rest))) port
@@ -302,16 +297,16 @@ loaded_from p p' r s t order w w' is ok from =
       counts_are = subst (λ (o : Option ℕ). CountsMore o (packets_from r.reader.told r.reader.rest) r.counts t.counts) port
           (subst (λ (c : PacketCounts). CountsMore s.port (packets_from r.reader.told r.reader.rest) c t.counts) counts
           (subst (λ (ps : List Packet). CountsMore s.port ps s.counts t.counts) packets printed.counts_are));
-      port = from.port ∙ port;
-      told = ap (λ (q : Capturing). q.told) from.reader ∙ h.told ∙ sym read.told_is;
+      port = same ∙ port;
+      told = ap (λ (q : Capturing). q.told) passed ∙ h.told ∙ sym read.told_is;
       rest = left;
-      behind = begin_of r.reader.told + from.behind;
+      behind = begin_of r.reader.told + behind;
       within = omega (arith, size, size', within, begin);
       place = λ at is_at.
-          let moved = ap (λ (q : Capturing). q.place) from.reader in
-          let begun = h.place from.behind in
+          let moved = ap (λ (q : Capturing). q.place) passed in
+          let begun = h.place behind in
           omega (arith, moved, begun, is_at);
-      fault = ap (λ (q : Capturing). q.fault) from.reader ∙ h.fault;
+      fault = ap (λ (q : Capturing). q.fault) passed ∙ h.fault;
       few = omega (arith, few, size, size', within, begin);
     }
 
@@ -343,7 +338,7 @@ pub loaded_none : (p : Printer) (r t : PacketReader) (e : CaptureError) (w : Opt
 loaded_none p r t e w is err = no_header p r t r.reader.told e w refl is err
 
 -- packets behind the header that are not printed
-pub loaded_fails : (p : Printer) (e : PrintError) (r s : PacketReader) (order : ByteOrder) (w w' : Option (List ℕ)) → s ≡ record r { reader = past_head r.reader } → ordered r.reader.told r.reader.rest ≡ Ok order
+pub loaded_fails : (p : Printer) (e : TaskError) (r s : PacketReader) (order : ByteOrder) (w w' : Option (List ℕ)) → s ≡ record r { reader = past_head r.reader } → ordered r.reader.told r.reader.rest ≡ Ok order
     → FailsBlocks e p w w' (blocks_in s.port (items_within (front_of order) s.reader.rest)) → FailsBlocks e p w w' (blocks_in r.port (packets_from r.reader.told r.reader.rest))
 loaded_fails p e r s order w w' is ok fails =
     let h = heads r.reader s.reader order r.reader.told refl (ap (λ (q : PacketReader). q.reader) is) ok in

@@ -13,7 +13,7 @@ use Rattle.pitch_model.specs.History.{Raw}
 use Rattle.pitch_model.specs.Image.{image}
 use Rattle.heard_items.proofs.Units.{all_honest_before}
 use Rattle.feed_lines.specs.Texts.{texts_after}
-use Rattle.feed_lines.proofs.Texts.{texts_none, texts_first, texts_more, reverse_more}
+use Rattle.feed_lines.proofs.Texts.{texts_none, texts_first, texts_more}
 use Rattle.relay_unit.specs.Hearing.{relay_heard, relay_history}
 use Rattle.relay_unit.specs.RelayText.{IsVenue, AreRelayVenues}
 use Rattle.relay_unit.proofs.Speaking.{venue_before}
@@ -24,8 +24,8 @@ use Rattle.stream_print.specs.Putting.{PutsSome}
 use Rattle.stream_print.specs.Sinks.{PutsSuch}
 use Rattle.stream_print.specs.Texts.{AreVenuesOf, block_text, texts_by}
 use Rattle.stream_print.specs.TextLaws.{AreTextsAfter, BeginTextsAfter, Outruns, OutrunsAmong}
-use Rattle.stream_print.specs.declared.failure.PrintError.{PrintError}
-use Rattle.stream_print.specs.declared.failure.PrintError.TheVariants.{SequencesSpent, Write, OutOfMemory}
+use Rattle.stream_print.specs.declared.failure.TaskError.{TaskError}
+use Rattle.stream_print.specs.declared.failure.TaskError.TheVariants.{SequencesSpent, Write, OutOfMemory}
 use Rattle.stream_print.specs.declared.printer.Printer.{Printer}
 use Rattle.stream_print.specs.declared.stream_form.StreamForm.{StreamForm}
 use Rattle.stream_print.specs.declared.stream_form.StreamForm.TheVariants.{Follow, Show, Relay, Quotes}
@@ -152,7 +152,7 @@ prints_one f g n u v block more same one = record {
   printed = λ before h. let count = h.number_is in one.printed before h.knows (omega (arith, count, more));
 }
 
-pub fails_one : (f : Printer) (e : PrintError) (n : ℕ) (u v : Option (List ℕ)) (block : Block) → n ≡ f.number + 1 → FailsBlock e f.task n u f.page.text v block → FailsBlocks e f u v (block ∷ [])
+pub fails_one : (f : Printer) (e : TaskError) (n : ℕ) (u v : Option (List ℕ)) (block : Block) → n ≡ f.number + 1 → FailsBlock e f.task n u f.page.text v block → FailsBlocks e f u v (block ∷ [])
 fails_one f e n u v block more fails = λ before h. let count = h.number_is in fails before h.knows (omega (arith, count, more))
 
 -- some blocks after others
@@ -187,13 +187,13 @@ puts_more_blocks form before all done more left u v w t s are some fails =
     (begin_joined form before done (more ++ left) all are) u v w t s some
     (record { text = fails.text; puts = fails.puts; such = begin_longer form (reverse done ++ before) more left (more ++ left) refl fails.text fails.such })
 
-pub fails_more : (f g : Printer) (e : PrintError) (u v w : Option (List ℕ)) (all done more left : List Block) → all ≡ done ++ (more ++ left) → PrintsBlocks f g u v done → FailsBlocks e g v w more → FailsBlocks e f u w all
+pub fails_more : (f g : Printer) (e : TaskError) (u v w : Option (List ℕ)) (all done more left : List Block) → all ≡ done ++ (more ++ left) → PrintsBlocks f g u v done → FailsBlocks e g v w more → FailsBlocks e f u w all
 fails_more f g e u v w all done more left are some fails = λ before known.
     let earlier : List Block = reverse done ++ before in
     by before e (some.printed before known)
     (subst (λ (form : StreamForm). Fails e form earlier more v g.page.text w) some.form_is (fails earlier (some.known before known)))
   where
-    by : (before : List Block) (e : PrintError) → PrintsSuch (AreTextsAfter (task_form f.task) before done) u f.page.text v g.page.text
+    by : (before : List Block) (e : TaskError) → PrintsSuch (AreTextsAfter (task_form f.task) before done) u f.page.text v g.page.text
         → Fails e (task_form f.task) (reverse done ++ before) more v g.page.text w → Fails e (task_form f.task) before all u f.page.text w
     by before SequencesSpent printed fails = outruns_more (task_form f.task) before all done more left are fails
     by before Write printed fails = puts_more_blocks (task_form f.task) before all done more left u v w f.page.text g.page.text are printed fails
@@ -237,7 +237,7 @@ taking_end f g bytes left last u v so_far none rest =
     }
 
 -- a block that is not printed, behind others
-pub taking_fails : (f g : Printer) (e : PrintError) (bytes left less : List ℕ) (u v w : Option (List ℕ)) (block : Block) → Taking f g bytes left u v → blocks_of left ≡ block ∷ blocks_of less
+pub taking_fails : (f g : Printer) (e : TaskError) (bytes left less : List ℕ) (u v w : Option (List ℕ)) (block : Block) → Taking f g bytes left u v → blocks_of left ≡ block ∷ blocks_of less
     → FailsBlocks e g v w (block ∷ []) → FailsBlocks e f u w (blocks_of bytes)
 taking_fails f g e bytes left less u v w block so_far first fails =
     fails_more f g e u v w (blocks_of bytes) so_far.done (block ∷ []) (blocks_of less)

@@ -1,62 +1,21 @@
 -- The books of all units, one after another.
 use Rattle.stream_print.specs.TextLaws.{IsEnd, IsPrefixOfEnd}
-use Rattle.std.proofs.Common.{◌≡◌, ℕ, ◌+◌, ◌<◌, Bool, true, false, cond, List, [], ◌∷◌, ◌++◌, take, refl, sym, ap, ◌∙◌, subst, arith, Option, Some, None, slice_get, append_assoc}
+use Rattle.std.proofs.Common.{◌≡◌, ℕ, ◌+◌, ◌<◌, Bool, true, false, cond, List, [], ◌∷◌, ◌++◌, refl, sym, ap, ◌∙◌, arith, Option, Some, slice_get, append_assoc}
 use Rattle.std.specs.List.{flat_map}
 use Rattle.std.proofs.lemmas.List.{append-nil}
 use Rattle.unit_packets.specs.Blocks.{Block}
-use Rattle.pitch_model.specs.Book.{Book, book_after}
-use Rattle.feed_lines.specs.BookText.{book_text}
-use Rattle.pitch_model.specs.History.{Entry, Raw}
-use Rattle.pitch_model.specs.Reach.{reach}
-use Rattle.heard_items.specs.Units.{unit_history}
+use Rattle.pitch_model.specs.History.{Raw}
 use Rattle.feed_lines.specs.Follow.{unit_text, books_of}
-use Rattle.client_core.specs.Tracks.{Tracks, Keeps}
 use Rattle.client_core.specs.declared.client.UnitClient.{UnitClient}
 use Rattle.stream_print.specs.layers.Books.{IsUnitText, AreBooksBelow, AreFirstBooks, named_text}
 use Rattle.stream_print.specs.declared.stream_form.StreamForm.TheVariants.{Follow}
 use Rattle.unit_clients.specs.Clients.{Units}
-use Rattle.stream_print.specs.Page.{PrintsSuch, Prints}
-use Rattle.stream_print.specs.Putting.{PutsSome}
+use Rattle.stream_print.specs.Page.{PrintsSuch}
 use Rattle.stream_print.specs.Sinks.{PutsSuch}
 use Rattle.stream_print.specs.Rising.{named_below}
-use Rattle.unit_clients.specs.Clients.{is_named, IsClient, KeepsTo, AreUnits, HaveHeard}
+use Rattle.unit_clients.specs.Clients.{is_named, AreUnits, HaveHeard}
 use Rattle.stream_print.proofs.Naming.{below_none, below_more, below_split, units_below}
 use Rattle.stream_print.proofs.Printing.{prints_none, prints_more, puts_then}
-
--- ---- One unit
-pub unit_none : (H : ℕ) (slot : Option UnitClient) (before : List Block) (unit : ℕ) (w : Option (List ℕ)) (t : List ℕ) → slot ≡ None → IsClient H before unit slot → PrintsSuch (IsUnitText H slot before unit) w t w t
-unit_none H slot before unit w t is stands = record {
-  text = [];
-  printed = prints_none w t;
-  such = λ Vs keeps. sym (ap (λ (b : Bool). cond b (unit_text H Vs before unit) []) (subst (IsClient H before unit) is stands));
-}
-
--- what a client's book prints as
-text_is : (H : ℕ) (client : UnitClient) (before : List Block) (unit n : ℕ) (book : Book) (Vs : ℕ → List Raw) → is_named before unit ≡ true → n ≡ reach H (unit_history unit before)
-    → book ≡ book_after (take (reach H (unit_history unit before)) (Vs unit)) → book_text unit n book ≡ named_text H Vs before unit
-text_is H client before unit n book Vs named at is =
-    ap (λ (m : ℕ). book_text unit m book) at ∙ ap (book_text unit (reach H (unit_history unit before))) is
-    ∙ sym (ap (λ (b : Bool). cond b (unit_text H Vs before unit) []) named)
-
--- what a client says of its reach and book
-pub record Tells (client : UnitClient) (n : ℕ) (book : Book) : Type 0 where
-  pub reach_is : (H : ℕ) (E : List Entry) → Tracks client H E → n ≡ reach H E
-  pub book_is : (H : ℕ) (E : List Entry) (V : List Raw) → Tracks client H E → Keeps client V → book ≡ book_after (take (reach H E) V)
-
-named_is : (H : ℕ) (slot : Option UnitClient) (client : UnitClient) (before : List Block) (unit n : ℕ) (book : Book) → slot ≡ Some client → IsClient H before unit slot → Tells client n book
-    → (Vs : ℕ → List Raw) → KeepsTo (Vs unit) slot → book_text unit n book ≡ named_text H Vs before unit
-named_is H slot client before unit n book is stands tells Vs keeps =
-    let s = subst (IsClient H before unit) is stands in
-    let k : Keeps client (Vs unit) = subst (KeepsTo (Vs unit)) is keeps in
-    text_is H client before unit n book Vs s.0 (tells.reach_is H (unit_history unit before) s.1) (tells.book_is H (unit_history unit before) (Vs unit) s.1 k)
-
-pub unit_some : (H : ℕ) (slot : Option UnitClient) (client : UnitClient) (before : List Block) (unit n : ℕ) (book : Book) (w : Option (List ℕ)) (t : List ℕ) (v : Option (List ℕ)) (u : List ℕ) → slot ≡ Some client
-    → IsClient H before unit slot → Tells client n book → Prints w t v u (book_text unit n book) → PrintsSuch (IsUnitText H slot before unit) w t v u
-unit_some H slot client before unit n book w t v u is stands tells printed = record { text = book_text unit n book; printed = printed; such = named_is H slot client before unit n book is stands tells }
-
-pub unit_fails : (H : ℕ) (slot : Option UnitClient) (client : UnitClient) (before : List Block) (unit n : ℕ) (book : Book) (w : Option (List ℕ)) (t : List ℕ) (v : Option (List ℕ)) → slot ≡ Some client
-    → IsClient H before unit slot → Tells client n book → PutsSome w v (t ++ book_text unit n book) → PutsSuch (IsUnitText H slot before unit) w t v
-unit_fails H slot client before unit n book w t v is stands tells puts = record { text = book_text unit n book; puts = puts; such = named_is H slot client before unit n book is stands tells }
 
 -- ---- All units
 flat_append : (f : ℕ → List ℕ) (xs ys : List ℕ) → flat_map f (xs ++ ys) ≡ flat_map f xs ++ flat_map f ys

@@ -10,7 +10,6 @@ use Rattle.pcap_feed.specs.declared.fault.ByteOrder.{ByteOrder}
 use Rattle.unit_packets.specs.Causes.{counted}
 use Rattle.unit_packets.specs.Reading.{Reading}
 use Rattle.unit_packets.specs.Pieces.{passed}
-use Rattle.pcap_feed.specs.Feeding.{put_behind}
 use Rattle.stream_print.specs.Carriers.{blocks_in}
 use Rattle.stream_print.specs.Counting.{use_of, CountsMore}
 use Rattle.stream_print.specs.Knowing.{task_form, Knows, HasPrinted}
@@ -22,9 +21,9 @@ use Rattle.stream_print.specs.declared.carrier.Carrier.{Carrier}
 use Rattle.stream_print.specs.declared.counts.PacketCounts.{PacketCounts}
 use Rattle.stream_print.specs.declared.counts.PacketUse.{PacketUse}
 use Rattle.stream_print.specs.declared.packets.PacketReader.{PacketReader}
-use Rattle.stream_print.specs.declared.failure.PrintError.{PrintError}
-use Rattle.stream_print.specs.declared.failure.PrintError.TheVariants.{SequencesSpent, Write}
-use Rattle.stream_print.specs.declared.failure.PrintError.TheVariants.{OutOfMemory}
+use Rattle.stream_print.specs.declared.failure.TaskError.{TaskError}
+use Rattle.stream_print.specs.declared.failure.TaskError.TheVariants.{SequencesSpent, Write}
+use Rattle.stream_print.specs.declared.failure.TaskError.TheVariants.{OutOfMemory}
 use Rattle.stream_print.specs.declared.printer.Printer.{Printer}
 use Rattle.stream_print.specs.declared.stream_form.StreamForm.{StreamForm}
 use Rattle.stream_print.specs.declared.task.Task.{Task}
@@ -49,7 +48,7 @@ pub record PrintsBlocks (p p' : Printer) (written written' : Option (List ℕ))
 
 -- why some blocks behind others were not printed: one of them outruns the last sequence; or the
 -- sink failed, or memory ran out, and some prefix was written
-abbrev pub Fails : PrintError → StreamForm → (before blocks : List Block)
+abbrev pub Fails : TaskError → StreamForm → (before blocks : List Block)
     → (written : Option (List ℕ)) (page : List ℕ) (written' : Option (List ℕ)) → Type 0
 Fails SequencesSpent form before blocks written page written' = OutrunsAmong form before blocks
 Fails Write form before blocks written page written' =
@@ -58,14 +57,14 @@ Fails OutOfMemory form before blocks written page written' =
     PutsSuch (BeginTextsAfter form before blocks) written page written'
 
 -- likewise of one block, by its task
-abbrev pub FailsBlock : PrintError → Task → ℕ → (written : Option (List ℕ)) (page : List ℕ)
+abbrev pub FailsBlock : TaskError → Task → ℕ → (written : Option (List ℕ)) (page : List ℕ)
     (written' : Option (List ℕ)) → Block → Type 0
 FailsBlock error t number written page written' block =
     (before : List Block) → Knows t before → number ≡ length before + 1
     → Fails error (task_form t) before (block ∷ []) written page written'
 
 -- and of some, by their printer
-abbrev pub FailsBlocks : PrintError → Printer → (written written' : Option (List ℕ)) → List Block
+abbrev pub FailsBlocks : TaskError → Printer → (written written' : Option (List ℕ)) → List Block
     → Type 0
 FailsBlocks error p written written' blocks =
     (before : List Block) → HasPrinted p before
@@ -97,16 +96,6 @@ pub record PrintsPackets (order : ByteOrder) (port : Option ℕ) (p p' : Printer
   pub within : n ≤ length bytes
   pub rest : left_over (front_of order) bytes ≡ drop n bytes
   pub few : 8 * p'.number ≤ 8 * p.number + n
-
--- likewise of all that a reader of a capture has loaded, whose header is behind; it is then behind
--- these packets
-pub record PrintsFrom (order : ByteOrder) (p p' : Printer) (r r' : PacketReader)
-    (written written' : Option (List ℕ)) : Type 0 where
-  pub behind : ℕ
-  pub printed :
-      PrintsPackets order r.port p p' r.counts r'.counts r.reader.rest behind written written'
-  pub reader : r'.reader ≡ put_behind r.reader behind
-  pub port : r'.port ≡ r.port
 
 -- likewise of all that a reader of a capture has loaded, which is then behind them
 pub record PrintsLoaded (p p' : Printer) (r r' : PacketReader)

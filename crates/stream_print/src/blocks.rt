@@ -5,7 +5,7 @@ ghost use Rattle.unit_packets.specs.Cutting.{blocks_of};
 ghost use Rattle.stream_print.specs.Sinks.{CountsFault};
 ghost use Rattle.stream_print.specs.Printing.{PrintsWhole, FailsBlocks};
 
-use crate::failure::PrintError;
+use crate::failure::TaskError;
 use crate::printer::Printer;
 use pitch_io::Sink;
 use std::alloc::Global;
@@ -17,14 +17,14 @@ pub fn print_blocks<O: Sink>(
     bytes: &[u8],
     printer: &mut Printer,
     out: &mut O,
-) -> Result<usize, PrintError>
+) -> Result<usize, TaskError>
     requires few { 8 * printer.old.number + length bytes.now ≤ 1073741824 }
     ensures prints { IfOk result (λ n.
         PrintsWhole printer.old printer.new bytes.now n (O.written out.old) (O.written out.new)) }
     ensures err { IfErr result (λ error.
         FailsBlocks error printer.old (O.written out.old) (O.written out.new) (blocks_of
         bytes.now)) }
-    ensures cause { CountsFault O.faults out.old out.new (result ≡ Err PrintError.Write) }
+    ensures cause { CountsFault O.faults out.old out.new (result ≡ Err TaskError.Write) }
 {
     let mut blocks = Blocks::of_bytes(bytes);
     'next: while let Some(block) = blocks.next_block() {

@@ -1,6 +1,6 @@
 //! The books that stand at the end of `follow`, with their orders and statuses.
 
-ghost use Rattle.std.specs.Prelude.{◌≡◌, ◌≢◌, ◌++◌, [], List, ℕ, OnOk, OnErr, Err, length};
+ghost use Rattle.std.specs.Prelude.{◌≡◌, ◌++◌, [], List, ℕ, OnOk, OnErr, Err, length};
 ghost use Rattle.unit_packets.specs.Blocks.{Block};
 ghost use Rattle.unit_clients.specs.Clients.{AreUnits, IsClient, Clients};
 ghost use Rattle.stream_print.specs.layers.Books.{IsUnitText, AreBooksBelow, AreFirstBooks};
@@ -25,7 +25,6 @@ fn print_orders<O: Sink>(page: &mut Page, out: &mut O, orders: &[Order]) -> Resu
     ensures err { OnErr result (
         PutsPrefix O.written out.old out.new
         (page.old.text ++ flat_map (λ o. order_line o.id o) orders.now)) }
-    ensures unspent { result ≢ Err PrintError.SequencesSpent }
     ensures cause { CountsFault O.faults out.old out.new (result ≡ Err PrintError.Write) }
 {
     'lines: for order in orders {
@@ -45,7 +44,6 @@ fn print_statuses<O: Sink>(
         PagePrints O.written out.old out.new page.old page.new (flat_map status_line states.now)) }
     ensures err { OnErr result (
         PutsPrefix O.written out.old out.new (page.old.text ++ flat_map status_line states.now)) }
-    ensures unspent { result ≢ Err PrintError.SequencesSpent }
     ensures cause { CountsFault O.faults out.old out.new (result ≡ Err PrintError.Write) }
 {
     'lines: for state in states {
@@ -70,7 +68,6 @@ pub fn print_book<O: Sink>(
     ensures err { OnErr result (
         PutsPrefix O.written out.old out.new (page.old.text ++ book_text unit reach
         book.now.book)) }
-    ensures unspent { result ≢ Err PrintError.SequencesSpent }
     ensures cause { CountsFault O.faults out.old out.new (result ≡ Err PrintError.Write) }
 {
     let mut states = StatusList::make(alloc);
@@ -94,7 +91,6 @@ fn print_book_orders<O: Sink>(
     ensures err { OnErr result (
         PutsPrefix O.written out.old out.new (page.old.text ++ book_orders unit reach
         book.now.book)) }
-    ensures unspent { result ≢ Err PrintError.SequencesSpent }
     ensures cause { CountsFault O.faults out.old out.new (result ≡ Err PrintError.Write) }
 {
     let mut orders = OrderList::make(alloc);
@@ -118,7 +114,6 @@ fn print_unit<O: Sink>(
         O.written out.old out.new page.old page.new) }
     ensures err { OnErr result ((H : ℕ) (before : List Block) → IsClient H before unit slot.now
         → PutsPrefixSuch (IsUnitText H slot.now before unit) O.written out.old out.new page.old) }
-    ensures unspent { result ≢ Err PrintError.SequencesSpent }
     ensures cause { CountsFault O.faults out.old out.new (result ≡ Err PrintError.Write) }
 {
     match slot {
@@ -142,7 +137,6 @@ pub fn print_books<O: Sink>(
     ensures err { OnErr result ((H : ℕ) (before : List Block)
         → Clients H clients.now before → AreUnits before
         → PutsPrefixSuch (AreFirstBooks H clients.now before) O.written out.old out.new page.old) }
-    ensures unspent { result ≢ Err PrintError.SequencesSpent }
     ensures cause { CountsFault O.faults out.old out.new (result ≡ Err PrintError.Write) }
 {
     'units: for unit in 0..clients.len() {

@@ -32,11 +32,20 @@ pub enum StreamFailure {
     OutOfMemory,
 }
 
+/// Why a task failed on a block.
+#[derive(Clone, Copy, PartialEq, Eq)]
+pub enum TaskError {
+    /// What a unit's relay sends has no sequences any more.
+    SequencesSpent,
+    /// The sink failed.
+    Write,
+    /// Memory ran out.
+    OutOfMemory,
+}
+
 /// Why text could not be printed.
 #[derive(Clone, Copy, PartialEq, Eq)]
 pub enum PrintError {
-    /// What a unit's relay sends has no sequences any more.
-    SequencesSpent,
     /// The sink failed.
     Write,
     /// Memory ran out.
@@ -65,16 +74,67 @@ impl From<OutOfMemory> for PrintError {
     }
 }
 
-impl From<RelayError> for PrintError {
+impl From<PutFailed> for TaskError {
+    ghost use Rattle.std.specs.Prelude.{◌≡◌};
+    ghost use Rattle.stream_print.specs.declared.failure.TaskError.TheVariants as task;
+
+    ghost from_gives = { λ _ error. error ≡ task.Write };
+
+    fn from(_: PutFailed) -> TaskError {
+        TaskError::Write
+    }
+}
+
+impl From<OutOfMemory> for TaskError {
+    ghost use Rattle.std.specs.Prelude.{◌≡◌};
+    ghost use Rattle.stream_print.specs.declared.failure.TaskError.TheVariants as task;
+
+    ghost from_gives = { λ _ error. error ≡ task.OutOfMemory };
+
+    fn from(_: OutOfMemory) -> TaskError {
+        TaskError::OutOfMemory
+    }
+}
+
+impl From<PrintError> for TaskError {
+    ghost use Rattle.std.specs.Prelude.{◌≡◌};
+    ghost use Rattle.stream_print.specs.layers.Failures.{untold};
+
+    ghost from_gives = { λ printing error. error ≡ untold printing };
+
+    fn from(error: PrintError) -> TaskError {
+        match error {
+            PrintError::Write => TaskError::Write,
+            PrintError::OutOfMemory => TaskError::OutOfMemory,
+        }
+    }
+}
+
+impl From<RelayError> for TaskError {
     ghost use Rattle.std.specs.Prelude.{◌≡◌};
     ghost use Rattle.stream_print.specs.layers.Failures.{unrelayed};
 
     ghost from_gives = { λ relayed error. error ≡ unrelayed relayed };
 
-    fn from(error: RelayError) -> PrintError {
+    fn from(error: RelayError) -> TaskError {
         match error {
-            RelayError::SequencesSpent { .. } => PrintError::SequencesSpent,
-            RelayError::OutOfMemory => PrintError::OutOfMemory,
+            RelayError::SequencesSpent { .. } => TaskError::SequencesSpent,
+            RelayError::OutOfMemory => TaskError::OutOfMemory,
+        }
+    }
+}
+
+impl From<TaskError> for StreamFailure {
+    ghost use Rattle.std.specs.Prelude.{◌≡◌};
+    ghost use Rattle.stream_print.specs.layers.Failures.{undone};
+
+    ghost from_gives = { λ error failure. failure ≡ undone error };
+
+    fn from(error: TaskError) -> StreamFailure {
+        match error {
+            TaskError::SequencesSpent => StreamFailure::SequencesSpent,
+            TaskError::Write => StreamFailure::Write,
+            TaskError::OutOfMemory => StreamFailure::OutOfMemory,
         }
     }
 }
@@ -87,7 +147,6 @@ impl From<PrintError> for StreamFailure {
 
     fn from(error: PrintError) -> StreamFailure {
         match error {
-            PrintError::SequencesSpent => StreamFailure::SequencesSpent,
             PrintError::Write => StreamFailure::Write,
             PrintError::OutOfMemory => StreamFailure::OutOfMemory,
         }

@@ -28,7 +28,7 @@ mod task;
 
 pub use crate::books::print_book;
 pub use crate::carrier::Carrier;
-pub use crate::failure::{PrintError, StreamFailure, StreamTrouble};
+pub use crate::failure::{PrintError, StreamFailure, StreamTrouble, TaskError};
 pub use crate::page::Page;
 pub use crate::pieces::{PIECE, piece_buffer, take_at_most};
 pub use crate::printer::Printer;

@@ -14,7 +14,7 @@ ghost use Rattle.stream_print.specs.Printing.{FailsBlocks};
 
 use crate::blocks::print_blocks;
 use crate::counts::{NO_COUNTS, PacketCounts, PacketUse, counts_with};
-use crate::failure::PrintError;
+use crate::failure::TaskError;
 use crate::printer::Printer;
 use pcap_feed::{ByteOrder, CaptureReader, RecordView, payload_in, view_record};
 use pitch_io::Sink;
@@ -26,7 +26,7 @@ fn print_payload<O: Sink>(
     datagram: &[u8],
     printer: &mut Printer,
     out: &mut O,
-) -> Result<PacketUse, PrintError>
+) -> Result<PacketUse, TaskError>
     requires few { 8 * printer.old.number + length datagram.now ≤ 1073741824 }
     ensures prints { IfOk result (λ is.
         PrintsDatagrams printer.old printer.new (length datagram.now) (datagram.now ∷ []) is
@@ -34,7 +34,7 @@ fn print_payload<O: Sink>(
     ensures err { IfErr result (λ error.
         FailsBlocks error printer.old (O.written out.old) (O.written out.new)
         (flat_map blocks_of (datagram.now ∷ []))) }
-    ensures cause { CountsFault O.faults out.old out.new (result ≡ Err PrintError.Write) }
+    ensures cause { CountsFault O.faults out.old out.new (result ≡ Err TaskError.Write) }
 {
     let whole = print_blocks(alloc, datagram, printer, out)?;
     if datagram.is_empty() {
@@ -53,7 +53,7 @@ fn print_datagram<O: Sink>(
     datagram: Option<(usize, usize)>,
     printer: &mut Printer,
     out: &mut O,
-) -> Result<PacketUse, PrintError>
+) -> Result<PacketUse, TaskError>
     requires within { IfSome datagram (λ found. found.0 + found.1 ≤ length frame.now) }
     requires few { 8 * printer.old.number + length frame.now ≤ 1073741824 }
     ensures prints { IfOk result (λ is.
@@ -62,7 +62,7 @@ fn print_datagram<O: Sink>(
     ensures err { IfErr result (λ error.
         FailsBlocks error printer.old (O.written out.old) (O.written out.new)
         (flat_map blocks_of (span_bytes frame.now datagram))) }
-    ensures cause { CountsFault O.faults out.old out.new (result ≡ Err PrintError.Write) }
+    ensures cause { CountsFault O.faults out.old out.new (result ≡ Err TaskError.Write) }
 {
     match datagram {
         Some(found) => print_payload(alloc, &frame[found.0..found.0 + found.1], printer, out),
@@ -77,7 +77,7 @@ fn print_packet<O: Sink>(
     port: Option<u16>,
     printer: &mut Printer,
     out: &mut O,
-) -> Result<PacketUse, PrintError>
+) -> Result<PacketUse, TaskError>
     requires few { 8 * printer.old.number + length packet.now.bytes ≤ 1073741824 }
     ensures prints { IfOk result (λ is.
         PrintsDatagrams printer.old printer.new (length packet.now.bytes)
@@ -85,7 +85,7 @@ fn print_packet<O: Sink>(
     ensures err { IfErr result (λ error.
         FailsBlocks error printer.old (O.written out.old) (O.written out.new)
         (flat_map blocks_of (payloads_in port packet.now))) }
-    ensures cause { CountsFault O.faults out.old out.new (result ≡ Err PrintError.Write) }
+    ensures cause { CountsFault O.faults out.old out.new (result ≡ Err TaskError.Write) }
 {
     let datagram = payload_in(packet.original, packet.bytes, port);
     print_datagram(alloc, packet.bytes, datagram, printer, out)
@@ -101,7 +101,7 @@ fn print_packets<O: Sink>(
     counts: &mut PacketCounts,
     printer: &mut Printer,
     out: &mut O,
-) -> Result<usize, PrintError>
+) -> Result<usize, TaskError>
     requires few { 8 * printer.old.number + length bytes.now ≤ 1073741824 }
     ensures prints { IfOk result (λ n.
         PrintsPackets order port printer.old printer.new counts.old counts.new bytes.now n
@@ -109,7 +109,7 @@ fn print_packets<O: Sink>(
     ensures err { IfErr result (λ error.
         FailsBlocks error printer.old (O.written out.old) (O.written out.new)
         (blocks_in port (items_within (front_of order) bytes.now))) }
-    ensures cause { CountsFault O.faults out.old out.new (result ≡ Err PrintError.Write) }
+    ensures cause { CountsFault O.faults out.old out.new (result ≡ Err TaskError.Write) }
 {
     let mut at = 0;
     'packet: while at <= bytes.len() {
@@ -135,12 +135,11 @@ pub struct PacketReader {
 
 impl PacketReader {
     ghost use Rattle.std.specs.Prelude.{◌≡◌, ◌≤◌, ◌+◌, ◌*◌, ◌++◌, [], length, OnOk, IfErr, Err, Ok};
-    ghost use Rattle.pcap_feed.specs.Capture.{front_of, packets_from, judge_head};
+    ghost use Rattle.pcap_feed.specs.Capture.{packets_from, judge_head};
     ghost use Rattle.pcap_feed.specs.Feeding.{more_loaded, unfed};
-    ghost use Rattle.pcap_feed.specs.Stream.{items_within};
     ghost use Rattle.stream_print.specs.Sinks.{CountsFault};
     ghost use Rattle.stream_print.specs.Carriers.{blocks_in};
-    ghost use Rattle.stream_print.specs.Printing.{PrintsFrom, PrintsLoaded, FailsBlocks};
+    ghost use Rattle.stream_print.specs.Printing.{PrintsLoaded, FailsBlocks};
 
     /// Nothing was read of the capture yet.
     pub fn make(alloc: Global, port: Option<u16>) -> PacketReader
@@ -154,23 +153,26 @@ impl PacketReader {
         }
     }
 
-    // Prints the blocks of all packets that are loaded whole, whose header told this byte order.
-    fn print_from<O: Sink>(
+    // Prints the blocks of all packets that are loaded whole.
+    fn print_loaded<O: Sink>(
         &mut self,
         alloc: Global,
-        order: ByteOrder,
         printer: &mut Printer,
         out: &mut O,
-    ) -> Result<(), PrintError>
+    ) -> Result<(), TaskError>
         requires few { 8 * printer.old.number + length self.old.reader.rest ≤ 1073741824 }
         ensures prints { OnOk result (
-            PrintsFrom order printer.old printer.new self.old self.new (O.written out.old)
+            PrintsLoaded printer.old printer.new self.old self.new (O.written out.old)
             (O.written out.new)) }
         ensures err { IfErr result (λ error.
             FailsBlocks error printer.old (O.written out.old) (O.written out.new)
-            (blocks_in self.old.port (items_within (front_of order) self.old.reader.rest))) }
-        ensures cause { CountsFault O.faults out.old out.new (result ≡ Err PrintError.Write) }
+            (blocks_in self.old.port (packets_from self.old.reader.told self.old.reader.rest))) }
+        ensures cause { CountsFault O.faults out.old out.new (result ≡ Err TaskError.Write) }
     {
+        let order = match self.reader.begin() {
+            Ok(order) => order,
+            Err(_) => return Ok(()),
+        };
         let rest = self.reader.rest();
         let size = print_packets(
             alloc,
@@ -185,28 +187,6 @@ impl PacketReader {
         Ok(())
     }
 
-    // Prints the blocks of all packets that are loaded whole.
-    fn print_loaded<O: Sink>(
-        &mut self,
-        alloc: Global,
-        printer: &mut Printer,
-        out: &mut O,
-    ) -> Result<(), PrintError>
-        requires few { 8 * printer.old.number + length self.old.reader.rest ≤ 1073741824 }
-        ensures prints { OnOk result (
-            PrintsLoaded printer.old printer.new self.old self.new (O.written out.old)
-            (O.written out.new)) }
-        ensures err { IfErr result (λ error.
-            FailsBlocks error printer.old (O.written out.old) (O.written out.new)
-            (blocks_in self.old.port (packets_from self.old.reader.told self.old.reader.rest))) }
-        ensures cause { CountsFault O.faults out.old out.new (result ≡ Err PrintError.Write) }
-    {
-        match self.reader.begin() {
-            Ok(order) => self.print_from(alloc, order, printer, out),
-            Err(_) => Ok(()),
-        }
-    }
-
     /// Loads a piece more, and prints the blocks of all packets that are whole then.
     pub fn print_piece<O: Sink>(
         &mut self,
@@ -214,7 +194,7 @@ impl PacketReader {
         printer: &mut Printer,
         piece: &[u8],
         out: &mut O,
-    ) -> Result<(), PrintError>
+    ) -> Result<(), TaskError>
         requires few { 8 * printer.old.number + length self.old.reader.rest + length piece.now
             ≤ 1073741824 }
         ensures prints { OnOk result (
@@ -225,7 +205,7 @@ impl PacketReader {
             FailsBlocks error printer.old (O.written out.old) (O.written out.new)
             (blocks_in self.old.port (packets_from self.old.reader.told (self.old.reader.rest ++
             piece.now)))) }
-        ensures cause { CountsFault O.faults out.old out.new (result ≡ Err PrintError.Write) }
+        ensures cause { CountsFault O.faults out.old out.new (result ≡ Err TaskError.Write) }
     {
         self.reader.load(piece)?;
         self.print_loaded(alloc, printer, out)

@@ -94,22 +94,11 @@ impl Page {
         ensures cause { CountsFault O.faults out.old out.new (IsErr result) }
     {
         if self.bytes.len() - self.at < bytes.len() {
-            return self.write_through(bytes, out);
+            self.flush(out)?;
+            put_all(out, bytes)?;
+            return Ok(());
         }
         self.add_bytes(bytes);
-        Ok(())
-    }
-
-    // Writes out the page, and some bytes behind it.
-    fn write_through<O: Sink>(&mut self, bytes: &[u8], out: &mut O) -> Result<(), PutFailed>
-        ensures printed { OnOk result (
-            PagePrints O.written out.old out.new self.old self.new bytes.now) }
-        ensures err { OnErr result (
-            PutsPrefix O.written out.old out.new (self.old.text ++ bytes.now)) }
-        ensures cause { CountsFault O.faults out.old out.new (IsErr result) }
-    {
-        self.flush(out)?;
-        put_all(out, bytes)?;
         Ok(())
     }
 

@@ -1,10 +1,11 @@
 //! What printing carries from block to block: a count, the task's state and the page.
 
-use crate::failure::PrintError;
+use crate::books::print_books;
+use crate::failure::{PrintError, TaskError};
 use crate::page::Page;
 use crate::pieces::PIECE;
 use crate::stream_form::StreamForm;
-use crate::task::{Task, make_task, print_block, print_end};
+use crate::task::{Task, make_task, print_block};
 use feed_lines::LINE;
 use pitch_fields::OutOfMemory;
 use pitch_io::Sink;
@@ -21,7 +22,7 @@ pub struct Printer {
 }
 
 impl Printer {
-    ghost use Rattle.std.specs.Prelude.{◌≡◌, ◌≢◌, ◌<◌, ◌+◌, ◌-◌, ◌^◌, [], ◌∷◌, List, OnOk, OnErr};
+    ghost use Rattle.std.specs.Prelude.{◌≡◌, ◌<◌, ◌+◌, ◌-◌, ◌^◌, [], ◌∷◌, List, OnOk, OnErr};
     ghost use Rattle.std.specs.Prelude.{IfOk, IfErr, Err};
     ghost use Rattle.unit_packets.specs.Blocks.{Block};
     ghost use Rattle.stream_print.specs.Sinks.{PagePrintsSuch, PutsPrefixSuch, CountsFault};
@@ -48,7 +49,7 @@ impl Printer {
         alloc: Global,
         block: &BlockView<'_>,
         out: &mut O,
-    ) -> Result<(), PrintError>
+    ) -> Result<(), TaskError>
         requires few { self.old.number < 2 ^ 64 - 1 }
         ensures prints { OnOk result (
             PrintsBlocks self.old self.new (O.written out.old) (O.written out.new)
@@ -57,7 +58,7 @@ impl Printer {
         // After a failure the sink has a prefix of the page and of the block's text.
         ensures err { IfErr result (λ error.
             FailsBlocks error self.old (O.written out.old) (O.written out.new) (block.now ∷ [])) }
-        ensures cause { CountsFault O.faults out.old out.new (result ≡ Err PrintError.Write) }
+        ensures cause { CountsFault O.faults out.old out.new (result ≡ Err TaskError.Write) }
     {
         self.number += 1;
         print_block(
@@ -79,9 +80,13 @@ impl Printer {
         ensures err { OnErr result ((before : List Block) → HasPrinted self.old before
             → PutsPrefixSuch (IsPrefixOfEnd (task_form self.old.task) before)
             O.written out.old out.new self.old.page) }
-        ensures unspent { IfErr result (λ error. error ≢ PrintError.SequencesSpent) }
         ensures cause { CountsFault O.faults out.old out.new (result ≡ Err PrintError.Write) }
     {
-        print_end(alloc, &self.task, &mut self.page, out)
+        match &self.task {
+            Task::Follow(units) => print_books(alloc, units.clients(), &mut self.page, out),
+            Task::Show => Ok(()),
+            Task::Relay(_) => Ok(()),
+            Task::Quotes(_) => Ok(()),
+        }
     }
 }

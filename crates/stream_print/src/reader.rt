@@ -11,7 +11,7 @@ ghost use Rattle.stream_print.specs.declared.failure.StreamTrouble.TheVariants.{
 
 use crate::blocks::print_blocks;
 use crate::carrier::Carrier;
-use crate::failure::{PrintError, StreamTrouble};
+use crate::failure::{StreamTrouble, TaskError};
 use crate::packets::PacketReader;
 use crate::page::Page;
 use crate::printer::Printer;
@@ -28,7 +28,7 @@ fn print_bare<O: Sink>(
     printer: &mut Printer,
     piece: &[u8],
     out: &mut O,
-) -> Result<(), PrintError>
+) -> Result<(), TaskError>
     requires few { 8 * printer.old.number + length reader.old.rest + length piece.now ≤ 1073741824 }
     ensures prints { OnOk result (
         PrintsBare printer.old printer.new (loaded reader.old piece.now) reader.new
@@ -36,7 +36,7 @@ fn print_bare<O: Sink>(
     ensures err { IfErr result (λ error.
         FailsBlocks error printer.old (O.written out.old) (O.written out.new)
         (blocks_of (reader.old.rest ++ piece.now))) }
-    ensures cause { CountsFault O.faults out.old out.new (result ≡ Err PrintError.Write) }
+    ensures cause { CountsFault O.faults out.old out.new (result ≡ Err TaskError.Write) }
 {
     reader.load(piece)?;
     let size = print_blocks(alloc, reader.rest(), printer, out)?;
@@ -122,7 +122,7 @@ impl StreamReader {
         printer: &mut Printer,
         piece: &[u8],
         out: &mut O,
-    ) -> Result<(), PrintError>
+    ) -> Result<(), TaskError>
         requires few { 8 * printer.old.number + rest_size self.old + length piece.now ≤ 1073741824 }
         ensures prints { OnOk result (
             PrintsPiece printer.old printer.new self.old self.new piece.now (O.written out.old)
@@ -130,7 +130,7 @@ impl StreamReader {
         ensures err { IfErr result (λ error.
             FailsBlocks error printer.old (O.written out.old) (O.written out.new)
             (blocks_with self.old piece.now)) }
-        ensures cause { CountsFault O.faults out.old out.new (result ≡ Err PrintError.Write) }
+        ensures cause { CountsFault O.faults out.old out.new (result ≡ Err TaskError.Write) }
     {
         match self {
             StreamReader::Blocks(reader) => print_bare(alloc, reader, printer, piece, out),

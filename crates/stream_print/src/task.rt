@@ -1,18 +1,15 @@
-//! What each form keeps and prints for a block, and at the end of the stream.
+//! What each form keeps and prints for a block.
 
-ghost use Rattle.std.specs.Prelude.{◌≡◌, ◌≢◌, ◌+◌, [], ◌∷◌, List, length, OnOk, OnErr, IfOk, IfErr};
+ghost use Rattle.std.specs.Prelude.{◌≡◌, ◌+◌, [], ◌∷◌, List, length, OnOk, OnErr, IfOk, IfErr};
 ghost use Rattle.std.specs.Prelude.{Err};
 ghost use Rattle.unit_packets.specs.Blocks.{Block};
 ghost use Rattle.feed_lines.specs.Follow.{line_after};
 ghost use Rattle.unit_clients.specs.Clients.{HaveHeard};
 ghost use Rattle.stream_print.specs.Knowing.{task_form, Knows};
 ghost use Rattle.stream_print.specs.Printing.{PrintsBlock, FailsBlock};
-ghost use Rattle.stream_print.specs.Sinks.{PagePrints, PagePrintsSuch, PutsPrefix, PutsPrefixSuch};
-ghost use Rattle.stream_print.specs.Sinks.{CountsFault};
-ghost use Rattle.stream_print.specs.TextLaws.{IsEnd, IsPrefixOfEnd};
+ghost use Rattle.stream_print.specs.Sinks.{PagePrints, PutsPrefix, CountsFault};
 
-use crate::books::print_books;
-use crate::failure::PrintError;
+use crate::failure::{PrintError, TaskError};
 use crate::listed::print_quotes;
 use crate::page::Page;
 use crate::shown::print_messages;
@@ -70,7 +67,6 @@ fn print_heard<O: Sink>(
         → PagePrints O.written out.old out.new page.old page.new
         (line_after units.old.limit before block.now)) }
     ensures err { OnErr result (PutsPrefix O.written out.old out.new page.old.text) }
-    ensures unspent { result ≢ Err PrintError.SequencesSpent }
     ensures cause { CountsFault O.faults out.old out.new (result ≡ Err PrintError.Write) }
 {
     page.make_place(out)?;
@@ -86,14 +82,14 @@ fn print_shown<O: Sink>(
     block: &BlockView<'_>,
     page: &mut Page,
     out: &mut O,
-) -> Result<(), PrintError>
+) -> Result<(), TaskError>
     ensures prints { OnOk result (
         PrintsBlock Task.Show Task.Show number
         (O.written out.old) page.old.text (O.written out.new) page.new.text block.now) }
     ensures err { IfErr result (λ error.
         FailsBlock error Task.Show number
         (O.written out.old) page.old.text (O.written out.new) block.now) }
-    ensures cause { CountsFault O.faults out.old out.new (result ≡ Err PrintError.Write) }
+    ensures cause { CountsFault O.faults out.old out.new (result ≡ Err TaskError.Write) }
 {
     page.make_place(out)?;
     let header = block.header();
@@ -110,14 +106,14 @@ fn print_relayed<O: Sink>(
     block: &BlockView<'_>,
     page: &mut Page,
     out: &mut O,
-) -> Result<(), PrintError>
+) -> Result<(), TaskError>
     ensures prints { OnOk result (
         PrintsBlock (Task.Relay relays.old) (Task.Relay relays.new) number
         (O.written out.old) page.old.text (O.written out.new) page.new.text block.now) }
     ensures err { IfErr result (λ error.
         FailsBlock error (Task.Relay relays.old) number
         (O.written out.old) page.old.text (O.written out.new) block.now) }
-    ensures cause { CountsFault O.faults out.old out.new (result ≡ Err PrintError.Write) }
+    ensures cause { CountsFault O.faults out.old out.new (result ≡ Err TaskError.Write) }
 {
     let mut datagrams = Vec::new(alloc);
     relays.hear(alloc, block, &mut datagrams)?;
@@ -133,14 +129,14 @@ fn print_quoted<O: Sink>(
     block: &BlockView<'_>,
     page: &mut Page,
     out: &mut O,
-) -> Result<(), PrintError>
+) -> Result<(), TaskError>
     ensures prints { OnOk result (
         PrintsBlock (Task.Quotes units.old) (Task.Quotes units.new) number
         (O.written out.old) page.old.text (O.written out.new) page.new.text block.now) }
     ensures err { IfErr result (λ error.
         FailsBlock error (Task.Quotes units.old) number
         (O.written out.old) page.old.text (O.written out.new) block.now) }
-    ensures cause { CountsFault O.faults out.old out.new (result ≡ Err PrintError.Write) }
+    ensures cause { CountsFault O.faults out.old out.new (result ≡ Err TaskError.Write) }
 {
     let mut lines = QuoteLines::make(alloc);
     units.hear(alloc, block, &mut lines)?;
@@ -157,7 +153,7 @@ pub fn print_block<O: Sink>(
     block: &BlockView<'_>,
     page: &mut Page,
     out: &mut O,
-) -> Result<(), PrintError>
+) -> Result<(), TaskError>
     // Whatever blocks came before, the task knows of this one too, and its text was printed.
     ensures prints { OnOk result (
         PrintsBlock task.old task.new number
@@ -166,37 +162,12 @@ pub fn print_block<O: Sink>(
     ensures err { IfErr result (λ error.
         FailsBlock error task.old number
         (O.written out.old) page.old.text (O.written out.new) block.now) }
-    ensures cause { CountsFault O.faults out.old out.new (result ≡ Err PrintError.Write) }
+    ensures cause { CountsFault O.faults out.old out.new (result ≡ Err TaskError.Write) }
 {
     match task {
-        Task::Follow(units) => print_heard(alloc, units, number, block, page, out),
+        Task::Follow(units) => Ok(print_heard(alloc, units, number, block, page, out)?),
         Task::Show => print_shown(number, block, page, out),
         Task::Relay(relays) => print_relayed(alloc, relays, number, block, page, out),
         Task::Quotes(units) => print_quoted(alloc, units, number, block, page, out),
-    }
-}
-
-/// Prints what stands at the end of a stream.
-pub fn print_end<O: Sink>(
-    alloc: Global,
-    task: &Task,
-    page: &mut Page,
-    out: &mut O,
-) -> Result<(), PrintError>
-    // Whatever blocks came before, what follows them at the end of a stream was printed.
-    ensures printed { OnOk result ((before : List Block) → Knows task.now before
-        → PagePrintsSuch (IsEnd (task_form task.now) before)
-        O.written out.old out.new page.old page.new) }
-    ensures err { OnErr result ((before : List Block) → Knows task.now before
-        → PutsPrefixSuch (IsPrefixOfEnd (task_form task.now) before)
-        O.written out.old out.new page.old) }
-    ensures unspent { result ≢ Err PrintError.SequencesSpent }
-    ensures cause { CountsFault O.faults out.old out.new (result ≡ Err PrintError.Write) }
-{
-    match task {
-        Task::Follow(units) => print_books(alloc, units.clients(), page, out),
-        Task::Show => Ok(()),
-        Task::Relay(_) => Ok(()),
-        Task::Quotes(_) => Ok(()),
     }
 }

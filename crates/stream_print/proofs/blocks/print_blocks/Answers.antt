@@ -3,7 +3,7 @@ use Rattle.pitch_model.proofs.Results.{at_exit}
 use Rattle.unit_packets.specs.Cutting.{blocks_of, rest_of}
 use Rattle.unit_packets.proofs.Cuts.{rest_short}
 use Rattle.stream_print.specs.Printing.{FailsBlocks}
-use Rattle.stream_print.specs.declared.failure.PrintError.{PrintError}
+use Rattle.stream_print.specs.declared.failure.TaskError.{TaskError}
 use Rattle.stream_print.proofs.Streaming.{taking_start, taking_more, taking_end, taking_fails}
 use Rattle.stream_print.proofs.blocks.print_blocks.Goals as goal
 
@@ -26,7 +26,7 @@ overflow_sub-result g c =
 
 pub returns-in_err-print-clause-err : goal.returns-in_err-print-clause-err
 returns-in_err-print-clause-err g c =
-    at_exit (λ (e : PrintError). FailsBlocks e c.args.printer.now (g.O.Sink.written c.args.out.now) (g.O.Sink.written c.print.new.out) (blocks_of c.args.bytes.now))
+    at_exit (λ (e : TaskError). FailsBlocks e c.args.printer.now (g.O.Sink.written c.args.out.now) (g.O.Sink.written c.print.new.out) (blocks_of c.args.bytes.now))
     c.from_residual.result _ c.from_residual.ensures
     (taking_fails _ _ _ _ _ _ _ _ _ c.in-Some.block c.next.invariant.taking c.in-Some.ensures.blocks c.in_err-print.ensures.err)
 

@@ -5,7 +5,7 @@ use Rattle.pcap_feed.specs.Capture.{front_of}
 use Rattle.pcap_feed.specs.Stream.{items_within}
 use Rattle.stream_print.specs.Carriers.{blocks_in}
 use Rattle.stream_print.specs.Printing.{FailsBlocks}
-use Rattle.stream_print.specs.declared.failure.PrintError.{PrintError}
+use Rattle.stream_print.specs.declared.failure.TaskError.{TaskError}
 use Rattle.stream_print.proofs.Packeting.{passing_start, passing_more, passing_end, passing_fails, packet_within}
 use Rattle.stream_print.proofs.packets.print_packets.Goals as goal
 
@@ -14,7 +14,7 @@ packet-init g c = record { passing = passing_start c.args.order c.args.port c.ar
 
 pub returns-in_err-outcome-in-Ok-clause-err : goal.returns-in_err-outcome-in-Ok-clause-err
 returns-in_err-outcome-in-Ok-clause-err g c =
-    at_exit (λ (e : PrintError). FailsBlocks e c.args.printer.now (g.O.Sink.written c.args.out.now) (g.O.Sink.written c.print_packet.new.out) (blocks_in c.args.port (items_within (front_of c.args.order) c.args.bytes.now)))
+    at_exit (λ (e : TaskError). FailsBlocks e c.args.printer.now (g.O.Sink.written c.args.out.now) (g.O.Sink.written c.print_packet.new.out) (blocks_in c.args.port (items_within (front_of c.args.order) c.args.bytes.now)))
     c.from_residual.result _ c.from_residual.ensures
     (passing_fails c.args.order c.args.port c.args.printer.now c.packet.printer _ c.args.counts.now c.packet.counts c.args.bytes.now _ c.packet.at (g.O.Sink.written c.args.out.now) (g.O.Sink.written c.packet.out) (g.O.Sink.written c.print_packet.new.out)
     c.in-Ok.packet c.packet.invariant.passing (take_rest c.args.bytes.now c.packet.at) c.in-Ok.ensures.found c.in_err-outcome-in-Ok.ensures.err)

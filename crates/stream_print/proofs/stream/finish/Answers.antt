@@ -17,7 +17,6 @@ pub returns-in_err-print_end-clause-finishes : goal.returns-in_err-print_end-cla
 returns-in_err-print_end-clause-finishes g c = λ carrier first before now start bytes small fed none read end.
     ends_same carrier (task_form c.args.printer.now.task) stream_limit c.from_residual.result _ first now start (g.O.Sink.written c.print_end.new.out) c.from_residual.ensures
     (ends_unwritten carrier (task_form c.args.printer.now.task) stream_limit first now start (g.O.Sink.written c.print_end.new.out) c.in_err-print_end.field-0.0
-    c.in_err-print_end.ensures.unspent
     (ends_unprinted carrier (task_form c.args.printer.now.task) first before now start (g.O.Sink.written c.args.out.now) (g.O.Sink.written c.print_end.new.out) c.args.printer.now c.args.reader.now bytes fed
     (consumes_kept first before now bytes read end.1) read end (c.in_err-print_end.ensures.err (reverse (carried_blocks carrier bytes)) fed.known)))
 

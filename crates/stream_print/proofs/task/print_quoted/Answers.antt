@@ -10,8 +10,8 @@ use Rattle.best_quotes.specs.Quoting.{quotes_of_block}
 use Rattle.best_quotes.specs.QuotesText.{quote_line}
 use Rattle.best_quotes.specs.declared.quote.QuoteLine.{QuoteLine}
 use Rattle.stream_print.specs.Printing.{FailsBlock}
-use Rattle.stream_print.specs.declared.failure.PrintError.{PrintError}
-use Rattle.stream_print.specs.declared.failure.PrintError.TheVariants.{Write, OutOfMemory}
+use Rattle.stream_print.specs.declared.failure.TaskError.{TaskError}
+use Rattle.stream_print.specs.declared.failure.TaskError.TheVariants.{Write, OutOfMemory}
 use Rattle.stream_print.specs.declared.stream_form.StreamForm.TheVariants as form
 use Rattle.stream_print.specs.declared.task.Task.TheVariants.{Quotes}
 use Rattle.stream_print.proofs.Streaming.{prints_text, puts_text, puts_page, puts_nothing}
@@ -27,7 +27,7 @@ quotes_are H unit block before V told made none named is heard empty =
 pub returns-in_err-hear-clause-err : goal.returns-in_err-hear-clause-err
 returns-in_err-hear-clause-err g c =
     let w = g.O.Sink.written c.args.out.now in
-    at_exit (λ (e : PrintError). FailsBlock e (Quotes c.args.units.now) c.args.number w c.args.page.now.text w c.args.block.now) c.from_residual.result OutOfMemory c.from_residual.ensures
+    at_exit (λ (e : TaskError). FailsBlock e (Quotes c.args.units.now) c.args.number w c.args.page.now.text w c.args.block.now) c.from_residual.result OutOfMemory c.from_residual.ensures
     (λ before knows is. puts_page (form.Quotes c.args.units.now.limit) before c.args.block.now w w c.args.page.now.text (puts_nothing w c.args.page.now.text))
 
 pub returns-in_err-print_quotes-clause-err : goal.returns-in_err-print_quotes-clause-err
@@ -35,7 +35,7 @@ returns-in_err-print_quotes-clause-err g c =
     let w = g.O.Sink.written c.args.out.now in
     let z = g.O.Sink.written c.print_quotes.new.out in
     let block = c.args.block.now in
-    at_exit (λ (e : PrintError). FailsBlock e (Quotes c.args.units.now) c.args.number w c.args.page.now.text z block) c.from_residual-in_err-print_quotes.result Write c.from_residual-in_err-print_quotes.ensures
+    at_exit (λ (e : TaskError). FailsBlock e (Quotes c.args.units.now) c.args.number w c.args.page.now.text z block) c.from_residual-in_err-print_quotes.result Write c.from_residual-in_err-print_quotes.ensures
     (λ before knows is. puts_text (form.Quotes c.args.units.now.limit) before block w z c.args.page.now.text (flat_map (quote_line c.header-unit.result.unit) c.as_slice.result.now) c.in_err-print_quotes.ensures.err
     (λ Vs venues. quotes_are c.args.units.now.limit c.header-unit.result.unit block before (Vs block.unit) c.as_slice.result.now c.hear.new.lines.items c.make-lines.result.items
     (ap (λ (h : Header). h.unit) c.header-unit.ensures) c.as_slice.ensures (c.in_ok-hear.ensures.quotes before image Vs knows venues) c.make-lines.ensures))

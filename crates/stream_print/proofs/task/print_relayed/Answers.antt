@@ -1,8 +1,8 @@
 use Rattle.std.proofs.Common.{◌≡◌, ◌++◌, List, ℕ, [], ap, ◌∙◌}
 use Rattle.pitch_model.proofs.Results.{at_exit}
 use Rattle.stream_print.specs.Printing.{FailsBlock}
-use Rattle.stream_print.specs.declared.failure.PrintError.{PrintError}
-use Rattle.stream_print.specs.declared.failure.PrintError.TheVariants.{Write}
+use Rattle.stream_print.specs.declared.failure.TaskError.{TaskError}
+use Rattle.stream_print.specs.declared.failure.TaskError.TheVariants.{Write}
 use Rattle.stream_print.specs.declared.stream_form.StreamForm.TheVariants as form
 use Rattle.stream_print.specs.declared.task.Task.TheVariants.{Relay}
 use Rattle.stream_print.proofs.Streaming.{prints_text, puts_text}
@@ -16,7 +16,7 @@ all_bytes made none more sends empty = sends ∙ ap (λ (bytes : List ℕ). byte
 pub returns-in_err-hear-clause-err : goal.returns-in_err-hear-clause-err
 returns-in_err-hear-clause-err g c =
     let w = g.O.Sink.written c.args.out.now in
-    at_exit (λ (e : PrintError). FailsBlock e (Relay c.args.relays.now) c.args.number w c.args.page.now.text w c.args.block.now) c.from_residual.result _ c.from_residual.ensures
+    at_exit (λ (e : TaskError). FailsBlock e (Relay c.args.relays.now) c.args.number w c.args.page.now.text w c.args.block.now) c.from_residual.result _ c.from_residual.ensures
     (relay_fails c.args.relays.now c.args.number c.args.block.now _ w c.args.page.now.text c.in_err-hear.ensures.many)
 
 pub returns-in_err-print_bytes-clause-err : goal.returns-in_err-print_bytes-clause-err
@@ -24,7 +24,7 @@ returns-in_err-print_bytes-clause-err g c =
     let w = g.O.Sink.written c.args.out.now in
     let z = g.O.Sink.written c.print_bytes.new.out in
     let block = c.args.block.now in
-    at_exit (λ (e : PrintError). FailsBlock e (Relay c.args.relays.now) c.args.number w c.args.page.now.text z block) c.from_residual-in_err-print_bytes.result Write c.from_residual-in_err-print_bytes.ensures
+    at_exit (λ (e : TaskError). FailsBlock e (Relay c.args.relays.now) c.args.number w c.args.page.now.text z block) c.from_residual-in_err-print_bytes.result Write c.from_residual-in_err-print_bytes.ensures
     (λ before knows is. puts_text (form.Relay c.args.relays.now.limit) before block w z c.args.page.now.text c.deref.result.now c.in_err-print_bytes.ensures.err
     (λ Vs venues. c.deref.ensures.value ∙ all_bytes c.hear.new.out.items c.new-datagrams.result.items _ (c.in_ok-hear.ensures.sends before Vs knows venues) c.new-datagrams.ensures.items))
 

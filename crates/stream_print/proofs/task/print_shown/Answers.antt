@@ -5,8 +5,8 @@ use Rattle.feed_lines.specs.Show.{shown_head, message_lines}
 use Rattle.stream_print.specs.Page.{Page, Prints}
 use Rattle.stream_print.specs.Printing.{FailsBlock}
 use Rattle.stream_print.specs.Putting.{PutsSome}
-use Rattle.stream_print.specs.declared.failure.PrintError.{PrintError}
-use Rattle.stream_print.specs.declared.failure.PrintError.TheVariants.{Write}
+use Rattle.stream_print.specs.declared.failure.TaskError.{TaskError}
+use Rattle.stream_print.specs.declared.failure.TaskError.TheVariants.{Write}
 use Rattle.stream_print.specs.declared.stream_form.StreamForm.TheVariants as form
 use Rattle.stream_print.specs.declared.task.Task.TheVariants.{Show}
 use Rattle.stream_print.proofs.Printing.{prints_line, prints_more, puts_then}
@@ -21,7 +21,7 @@ pub returns-in_err-make_place-clause-err : goal.returns-in_err-make_place-clause
 returns-in_err-make_place-clause-err g c =
     let w = g.O.Sink.written c.args.out.now in
     let v = g.O.Sink.written c.make_place.new.out in
-    at_exit (λ (e : PrintError). FailsBlock e Show c.args.number w c.args.page.now.text v c.args.block.now) c.from_residual.result Write c.from_residual.ensures
+    at_exit (λ (e : TaskError). FailsBlock e Show c.args.number w c.args.page.now.text v c.args.block.now) c.from_residual.result Write c.from_residual.ensures
     (λ before knows is. puts_page form.Show before c.args.block.now w v c.args.page.now.text c.in_err-make_place.ensures.err)
 
 pub returns-in_err-print_messages-clause-err : goal.returns-in_err-print_messages-clause-err
@@ -35,7 +35,7 @@ returns-in_err-print_messages-clause-err g c =
     let lines : List ℕ = message_lines c.header-header.result.sequence c.raws.result in
     let puts = puts_then w v z c.args.page.now.text c.add_shown_head.new.self.text head lines first c.in_err-print_messages.ensures.err in
     let text : List ℕ = shown_head c.args.number block.unit block.sequence (length block.raws) ++ message_lines block.sequence block.raws in
-    at_exit (λ (e : PrintError). FailsBlock e Show c.args.number w c.args.page.now.text z block) c.from_residual-in_err-print_messages.result Write c.from_residual-in_err-print_messages.ensures
+    at_exit (λ (e : TaskError). FailsBlock e Show c.args.number w c.args.page.now.text z block) c.from_residual-in_err-print_messages.result Write c.from_residual-in_err-print_messages.ensures
     (λ before knows is. puts_text form.Show before block w z c.args.page.now.text text
     (subst (λ (t : List ℕ). PutsSome w z (c.args.page.now.text ++ t))
     (ap₂ ◌++◌ (ap (head_of c.args.number) c.header-header.ensures) (ap₂ message_lines (ap (λ (h : Header). h.sequence) c.header-header.ensures) c.raws.ensures.raws)) puts)

@@ -2,7 +2,7 @@ use Rattle.std.proofs.Common.{◌≡◌, ap, ◌∙◌, length, arith}
 use Rattle.pitch_model.proofs.Results.{at_exit}
 use Rattle.unit_packets.specs.Cutting.{rest_of}
 use Rattle.stream_print.specs.Printing.{FailsBlocks}
-use Rattle.stream_print.specs.declared.failure.PrintError.{PrintError}
+use Rattle.stream_print.specs.declared.failure.TaskError.{TaskError}
 use Rattle.live_listen.specs.Heard.{heard_in}
 use Rattle.live_listen.proofs.Hearing.{hearing_start, hearing_more, hearing_end, hearing_fails}
 use Rattle.live_listen.proofs.listener.Listener.hear_blocks.Goals as goal
@@ -21,7 +21,7 @@ next-preserved g c =
 
 pub returns-in_err-hear_block-clause-err : goal.returns-in_err-hear_block-clause-err
 returns-in_err-hear_block-clause-err g c =
-    at_exit (λ (e : PrintError). FailsBlocks e c.args.self.now.printer (g.O.Sink.written c.args.out.now) (g.O.Sink.written c.hear_block.new.out) (heard_in c.args.setup.now.units c.args.datagram.now))
+    at_exit (λ (e : TaskError). FailsBlocks e c.args.self.now.printer (g.O.Sink.written c.args.out.now) (g.O.Sink.written c.hear_block.new.out) (heard_in c.args.setup.now.units c.args.datagram.now))
     c.from_residual.result _ c.from_residual.ensures
     (hearing_fails c.args.setup.now.units _ _ _ _ _ _ _ _ _ c.in-Some.block c.next.invariant.hearing c.in-Some.ensures.blocks c.in_err-hear_block.ensures.err)
 

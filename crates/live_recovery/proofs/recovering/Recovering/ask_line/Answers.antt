@@ -5,7 +5,7 @@ use Rattle.live_turns.specs.Turning.{Passes}
 use Rattle.live_turns.specs.declared.due.Due.TheVariants as to
 use Rattle.live_turns.specs.declared.turns.LiveTurns.{LiveTurns}
 use Rattle.live_units.specs.Coming.{with_datagram}
-use Rattle.live_units.specs.declared.error.LiveError.TheVariants as live
+use Rattle.stream_print.specs.declared.failure.PrintError.TheVariants as printing
 use Rattle.live_recovery.specs.Standing.{devices, now_of}
 use Rattle.live_recovery.specs.declared.error.RecoverError.TheVariants as errors
 use Rattle.live_recovery.specs.declared.recovering.Recovering.{Recovering}
@@ -59,7 +59,7 @@ returns-in_err-flush-in-Failed-clause-steps g c = λ start about.
     let v = devices (g.N.LiveNet.calls c.receive.new.self) (g.O.Sink.written c.flush.new.out) in
     steps_same s c.from_residual-in_err-flush-in-Failed.result _ start v _ c.from_residual-in_err-flush-in-Failed.ensures
     (ends_by_puts s start u r (to.Receive c.args.line) about (Receive c.args.line (length c.args.into.now) [] received.Failed) (refl, c.requires.room) v c.in-Failed.ensures.calls
-    (now_of about.came r.units) (same_still (now_of about.came r.units)) (c.flush.ensures.grows s.listens start.written about.came about.stands.units) errors.Write (leaves_prefix live.Write) (c.in_err-flush-in-Failed.ensures.err s.listens start.written about.came about.stands.units))
+    (now_of about.came r.units) (same_still (now_of about.came r.units)) (c.flush.ensures.grows s.listens start.written about.came about.stands.units) errors.Write (leaves_prefix printing.Write) (c.in_err-flush-in-Failed.ensures.err s.listens start.written about.came about.stands.units))
 
 pub returns-in_ok-flush-in-Failed-clause-steps : goal.returns-in_ok-flush-in-Failed-clause-steps
 returns-in_ok-flush-in-Failed-clause-steps g c = λ start about.

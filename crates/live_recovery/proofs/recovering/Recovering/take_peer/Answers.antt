@@ -4,7 +4,7 @@ use Rattle.live_net.specs.LiveCalls.{LiveCall, Take}
 use Rattle.live_net.specs.declared.live.PeerTaken.TheVariants as taken
 use Rattle.live_turns.specs.declared.due.Due.TheVariants as to
 use Rattle.live_units.specs.Coming.{to_unit, with_came}
-use Rattle.live_units.specs.declared.error.LiveError.TheVariants as live
+use Rattle.stream_print.specs.declared.failure.PrintError.TheVariants as printing
 use Rattle.sending_end.specs.Waiting.{ended}
 use Rattle.live_recovery.specs.Standing.{devices, now_of}
 use Rattle.live_recovery.specs.declared.error.RecoverError.TheVariants as errors
@@ -30,7 +30,7 @@ returns-in_err-took-in-Got-clause-steps g c = λ start about.
     steps_same s c.from_residual.result _ start v _ c.from_residual.ensures
     (ends_by_puts s start u r (to.Take c.args.at) about (Take c.args.at room bytes (taken.Got c.in-Got.count)) (refl, c.requires.room) v c.in-Got.ensures.calls
     (comes_now s c.in-Some.peer.unit failed.0 (now_of about.came r.units)) (untold s c.args.at c.in-Some.peer (sym c.in-Some.ensures) r.units about.came room c.in-Got.count bytes failed.1.0 failed.0 failed.1.1.0)
-    (c.took.ensures.grows s.listens start.written about.came about.stands.units) errors.Write (leaves_prefix live.Write) (failed.1.1.1 s.listens start.written about.came about.stands.units))
+    (c.took.ensures.grows s.listens start.written about.came about.stands.units) errors.Write (leaves_prefix printing.Write) (failed.1.1.1 s.listens start.written about.came about.stands.units))
 
 pub returns-in_ok-took-in-Got-clause-steps : goal.returns-in_ok-took-in-Got-clause-steps
 returns-in_ok-took-in-Got-clause-steps g c = λ start about.

@@ -5,7 +5,7 @@ use Rattle.stream_print.specs.Readers.{rest_size, blocks_with}
 use Rattle.stream_print.specs.declared.reader.StreamReader.{StreamReader}
 use Rattle.stream_print.specs.declared.reader.StreamReader.TheVariants.{Blocks, Packets}
 use Rattle.std.proofs.lemmas.Result.{IfErr-weaker}
-use Rattle.stream_print.specs.declared.failure.PrintError.{PrintError}
+use Rattle.stream_print.specs.declared.failure.TaskError.{TaskError}
 use Rattle.stream_print.proofs.Piecing.{bare_piece, packets_piece}
 use Rattle.stream_print.proofs.reader.StreamReader.print_piece.Goals as goal
 
@@ -31,7 +31,7 @@ pub returns-in-Blocks-clause-err : goal.returns-in-Blocks-clause-err
 returns-in-Blocks-clause-err g c =
     let w = g.O.Sink.written c.args.out.now in
     let w' = g.O.Sink.written c.print_bare.new.out in
-    IfErr-weaker c.print_bare.result _ (λ (e : PrintError). FailsBlocks e c.args.printer.now w w' (blocks_with c.args.self.now c.args.piece.now))
+    IfErr-weaker c.print_bare.result _ (λ (e : TaskError). FailsBlocks e c.args.printer.now w w' (blocks_with c.args.self.now c.args.piece.now))
     (λ e fails. subst (λ (r : StreamReader). FailsBlocks e c.args.printer.now w w' (blocks_with r c.args.piece.now)) (sym c.in-Blocks.is) fails) c.print_bare.ensures.err
 
 pub returns-in-Packets-clause-prints : goal.returns-in-Packets-clause-prints
@@ -46,5 +46,5 @@ pub returns-in-Packets-clause-err : goal.returns-in-Packets-clause-err
 returns-in-Packets-clause-err g c =
     let w = g.O.Sink.written c.args.out.now in
     let w' = g.O.Sink.written c.print_piece.new.out in
-    IfErr-weaker c.print_piece.result _ (λ (e : PrintError). FailsBlocks e c.args.printer.now w w' (blocks_with c.args.self.now c.args.piece.now))
+    IfErr-weaker c.print_piece.result _ (λ (e : TaskError). FailsBlocks e c.args.printer.now w w' (blocks_with c.args.self.now c.args.piece.now))
     (λ e fails. subst (λ (r : StreamReader). FailsBlocks e c.args.printer.now w w' (blocks_with r c.args.piece.now)) (sym c.in-Packets.is) fails) c.print_piece.ensures.err
