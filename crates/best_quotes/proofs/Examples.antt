@@ -1,5 +1,5 @@
 -- Worked examples, computed by the definitions.
-use Rattle.std.proofs.Common.{◌≡◌, ℕ, ◌*◌, ◌==◌, Bool, true, false, cond, ◌&&◌, ◌||◌, List, [], ◌∷◌, ◌++◌, map, filter, Option, None, Some, refl, sym, ap, ◌∙◌, codes, bytes_eq}
+use Rattle.std.proofs.Common.{◌≡◌, ℕ, ◌==◌, Bool, true, false, cond, ◌&&◌, ◌||◌, List, [], ◌∷◌, ◌++◌, map, filter, Option, None, Some, refl, sym, ap, ◌∙◌, codes, bytes_eq}
 use Rattle.std.specs.Prelude.{sum_by, option_map}
 use Rattle.std.specs.List.{list_any, flat_map}
 use Rattle.std.specs.List.Sorted.{IsStrictlySortedBy}
@@ -18,7 +18,6 @@ use Rattle.pitch_messages.specs.declared.order.Order.{Order}
 use Rattle.pitch_model.specs.Book.{Book, empty_book, with_order, without_order, after, book_after}
 use Rattle.pitch_model.specs.History.{Raw}
 use Rattle.pitch_model.specs.Levels.{orders_of, same_side, best_of, best, level}
-use Rattle.best_quotes.specs.BestFirst.{rising, best_first}
 use Rattle.best_quotes.specs.Changes.{same_best, change_between, change_on, changes}
 use Rattle.best_quotes.specs.Quoting.{numbered, quotes_after}
 use Rattle.best_quotes.specs.QuotesText.{quote_line}
@@ -233,16 +232,3 @@ two_of_four_are_told =
 text_of_four : flat_map (quote_line 1) told_of_four ≡ codes "quote unit 1 at 1 IBM B 10.0000 100\nquote unit 1 at 2 IBM B 10.0000 150\n"
 unfolding quote_line name_shown digits
 text_of_four = refl
-
--- ---- Levels: each price once with its shares, the best first
-abbrev hundreds : ℕ → ℕ
-hundreds price = 100 * price
-
-two_bids : best_first Buy (rising hundreds (7 ∷ 9 ∷ 7 ∷ [])) ≡ (9, 900) ∷ (7, 700) ∷ []
-two_bids = refl
-
-three_offers : best_first Sell (rising hundreds (8 ∷ 9 ∷ 7 ∷ 9 ∷ [])) ≡ (7, 700) ∷ (8, 800) ∷ (9, 900) ∷ []
-three_offers = refl
-
-no_level : best_first Buy (rising hundreds []) ≡ []
-no_level = refl

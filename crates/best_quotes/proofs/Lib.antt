@@ -1,12 +1,9 @@
-pub mod Answered
 pub mod Telling
 pub mod Lasting
 pub mod Balancing
-pub mod Laid
 pub mod Pricing
 pub mod Sided
 pub mod Besting
-pub mod Rising
 pub mod Listing
 pub mod Moving
 pub mod Turning

@@ -1,8 +1,6 @@
 -- What a message does to the book, as the levels need it.
-use Rattle.std.proofs.Common.{◌≡◌, ℕ, ◌&&◌, false, List, [], filter, Option, Some, None, refl, sym, ap, ◌∙◌, subst}
-use Rattle.std.specs.Option.{IfSome}
+use Rattle.std.proofs.Common.{◌≡◌, ℕ, ◌&&◌, false, List, [], filter, Option, None, refl, sym, ap, ◌∙◌, subst}
 use Rattle.std.specs.Str.{bytes_eq}
-use Rattle.indexmap.specs.IndexMap.{IndexMap}
 use Rattle.pitch_messages.specs.declared.order.Order.{Order}
 use Rattle.pitch_model.specs.Book.{Book, IsBook, after, empty_book}
 use Rattle.pitch_model.specs.Levels.{level, same_side}
@@ -14,8 +12,7 @@ use Rattle.order_book.specs.declared.naming.Touches.TheVariants as touches
 use Rattle.order_book.specs.declared.turn.Turn.{Turn}
 use Rattle.order_book.specs.declared.turn.Turn.TheVariants as turn
 use Rattle.best_quotes.specs.layers.Ladders.{IsLadder}
-use Rattle.best_quotes.specs.Leveling.{standing, Entries, Has, level_in, AreLevels}
-use Rattle.best_quotes.specs.declared.levels.Sides.{Sides}
+use Rattle.best_quotes.specs.Leveling.{standing, Entries, Has, level_in}
 use Rattle.best_quotes.specs.layers.Turning.{Becomes, AreGone}
 use Rattle.best_quotes.proofs.Besting.{none_open}
 use Rattle.best_quotes.proofs.Moving.{IsTouched, touches_orders}
@@ -56,10 +53,6 @@ starts_with book levels e none = subst (λ (b : Book). Has levels (level b)) (sy
     ap (λ (es : Entries). level_in es symbol side price) none
     ∙ ap standing (sym (none_open empty_book empty_book_book symbol side price
     (ap (filter (λ order. bytes_eq symbol order.symbol && same_side side order.side)) no_orders))))
-
-pub starts_any : {S : Type 0} (levels : Option (IndexMap (List ℕ) Sides S)) (book : Book) → book ≡ empty_book → IfSome levels (λ l. l.entries ≡ []) → AreLevels levels book
-starts_any None book e none = none
-starts_any (Some l) book e none = starts_with book l.entries e none
 
 pub starts : (book : Book) (levels : Entries) → book ≡ empty_book → levels ≡ [] → IsLadder book levels false
 starts book levels e none = record { is_book = subst IsBook (sym e) empty_book_book; has = λ f. starts_with book levels e none }

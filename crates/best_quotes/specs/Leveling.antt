@@ -1,6 +1,6 @@
 -- Levels in maps: for each symbol what is open on either side at each price, where anything is.
 use Rattle.std.specs.Prelude.{◌≡◌, ℕ, ◌+◌, ◌-◌, ◌==◌, false, List, bytes_eq, Option, Some, None}
-use Rattle.std.specs.Prelude.{IsSome, IfSome, if◌then◌else◌}
+use Rattle.std.specs.Prelude.{IsSome, if◌then◌else◌}
 use Rattle.std.specs.Map.{lookup}
 use Rattle.std.specs.Option.{IsSomeAnd}
 use Rattle.std.specs.Ordering.{nat_cmp}
@@ -8,9 +8,7 @@ use Rattle.std.specs.BTreeMap.{BTreeMap, get}
 use Rattle.pitch_fields.specs.declared.side.Side.{Side}
 use Rattle.pitch_fields.specs.declared.side.Side.TheVariants.{Buy, Sell}
 use Rattle.pitch_messages.specs.declared.order.Order.{Order}
-use Rattle.indexmap.specs.IndexMap.{IndexMap}
-use Rattle.pitch_model.specs.Book.{Book}
-use Rattle.pitch_model.specs.Levels.{better, level}
+use Rattle.pitch_model.specs.Levels.{better}
 use Rattle.best_quotes.specs.Balance.{shares_of}
 use Rattle.best_quotes.specs.declared.levels.Sides.{Sides}
 
@@ -120,10 +118,6 @@ moved before now shares = λ symbol side price.
 abbrev pub IsOn : List ℕ → Side → Option Order → Type 0
 IsOn symbol side None = Unit {0}
 IsOn symbol side (Some order) = (order.symbol ≡ symbol) × (order.side ≡ side)
-
--- levels that may have gone are those of a book, where they are there
-abbrev pub AreLevels : {S : Type 0} → Option (IndexMap (List ℕ) Sides S) → Book → Type 0
-AreLevels levels book = IfSome levels (λ levels. Has levels.entries (level book))
 
 -- one order became another in the levels
 abbrev pub MovesLevels : Option Order → Option Order → Entries → Entries → Type 0

@@ -1,7 +1,5 @@
 pub mod Balance
-pub mod BestFirst
 pub mod Changes
-pub mod Hearing
 pub mod Leveling
 pub mod Quoting
 pub mod LastBest

@@ -2,7 +2,7 @@
 
 ghost use Rattle.std.specs.Prelude.{OnOk, IfOk, length};
 ghost use Rattle.unit_packets.specs.Blocks.{StaysWithin};
-ghost use Rattle.best_quotes.specs.Hearing.{LevelsStay, Tells};
+ghost use Rattle.best_quotes.specs.layers.Hearing.{LevelsStay, Tells};
 ghost use Rattle.client_core.specs.layers.Hearing.{Changes, HearsBlock, KeepsBlock, OfBlock};
 
 use crate::levels::Levels;

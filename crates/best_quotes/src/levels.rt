@@ -27,10 +27,12 @@ pub(crate) struct Sides {
     sell: Prices,
 }
 
-// The two sides of a symbol with the best of each, which is told so from the symbol's own place: a
-// walk to the end of its prices is one through memory that is in no cache.
+/// The open shares of a symbol by side and price.
+///
+/// The best of each side stands beside them, which is told so from the symbol's own place: a walk
+/// to the end of its prices is one through memory that is in no cache.
 #[derive(Drop)]
-pub(crate) struct Depth {
+pub struct Depth {
     bid: Best,
     offer: Best,
     sides: Sides,
@@ -50,8 +52,8 @@ impl Model for Depth {
     ghost invariant = { λ d. AreBests d.sides d.bid d.offer };
 }
 
-// The depth of each symbol that has an open order.
-pub(crate) type Levels = IndexMap<[u8; 8], Depth>;
+/// The depth of each symbol that has an open order.
+pub type Levels = IndexMap<[u8; 8], Depth>;
 
 // Two empty sides, which take no memory.
 fn no_sides(alloc: Global) -> Depth
@@ -88,16 +90,16 @@ fn nearest(levels: &Levels, symbol: Symbol, side: Side) -> Best
     }
 }
 
-// The best price of a symbol on a side, with its shares.
-pub(crate) fn best_level(levels: &Levels, symbol: Symbol, side: Side) -> Best
+/// The best price of a symbol on a side, with its shares; None exactly where the side is empty.
+pub fn best_level(levels: &Levels, symbol: Symbol, side: Side) -> Option<(Price, u64)>
     ensures { (book : Book) → IsBook book → Has levels.now.entries (level book)
         → result ≡ best book symbol side }
 {
     nearest(levels, symbol, side)
 }
 
-// A side's prices.
-pub(crate) fn prices_in(depth: &Depth, side: Side) -> &Prices
+/// A side of a symbol.
+pub fn prices_in(depth: &Depth, side: Side) -> &Prices
     ensures { result.now ≡ side_of side depth.now }
 {
     match side {
@@ -106,8 +108,8 @@ pub(crate) fn prices_in(depth: &Depth, side: Side) -> &Prices
     }
 }
 
-// The shares of a symbol on a side at a price.
-pub(crate) fn level_at(levels: &Levels, symbol: Symbol, side: Side, price: Price) -> u64
+/// The shares of a symbol on a side at a price; 0 where no order is open there.
+pub fn level_at(levels: &Levels, symbol: Symbol, side: Side, price: Price) -> u64
     ensures { (shares : Shares) → Has levels.now.entries shares
         → result ≡ shares symbol side price }
 {

@@ -4,17 +4,17 @@
 //! the best of each symbol and side where it became another; `best` answers one at any time. A
 //! `QuotedUnit` has such levels beside the client of a unit, and `QuotedUnits` one for each unit of
 //! a stream; `append_quotes` writes the lines of what they tell.
+//!
+//! `Levels` are for whoever keeps levels beside a book of its own: `put_order` lays the orders that
+//! are open, `turn_each` goes along with the messages that are applied, and `best_level`,
+//! `level_at` and `prices_in` answer.
 #![tactic(auto)]
 
-mod best_first;
 mod bests;
 mod clearing;
 mod hearing;
 mod ladder;
 pub mod laws;
-mod laying;
-mod leveled;
-mod leveled_units;
 mod levels;
 mod lines;
 mod prices;
@@ -25,13 +25,13 @@ mod text;
 mod unit;
 mod units;
 
-pub use crate::best_first::LevelList;
 pub use crate::bests::QuoteList;
 pub use crate::ladder::Ladder;
-pub use crate::leveled::{Heard, LeveledUnit};
-pub use crate::leveled_units::LeveledUnits;
-pub use crate::lines::QuoteLines;
+pub use crate::levels::{Depth, Levels, best_level, level_at, prices_in};
+pub use crate::lines::{QuoteLines, turn_each};
+pub use crate::prices::Prices;
 pub use crate::quote::{Quote, QuoteLine};
+pub use crate::steps::put_order;
 pub use crate::text::{append_quotes, put_quote_line};
 pub use crate::unit::QuotedUnit;
 pub use crate::units::QuotedUnits;

@@ -31,9 +31,11 @@ fn number(lines: &mut QuoteLines, sequence: u32, quotes: &QuoteList) -> Result<(
     Ok(())
 }
 
-// Does to the levels of a book what each of some messages did to its orders, and appends what each
-// changes. The messages follow the one with this sequence.
-pub(crate) fn turn_each(
+/// Does to the levels of a book what each of some messages did to its orders, and appends what each
+/// changes of the best prices. The messages follow the one with the sequence `reach`.
+///
+/// After OutOfMemory nothing is said of the levels, nor of `lines`.
+pub fn turn_each(
     alloc: Global,
     levels: &mut Levels,
     reach: u32,

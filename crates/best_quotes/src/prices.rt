@@ -11,8 +11,8 @@ use pitch_fields::{OutOfMemory, Price, Side};
 use pitch_messages::Order;
 use std::collections::BTreeMap;
 
-// The open shares at each price of one side of a symbol, where there are any.
-pub(crate) type Prices = BTreeMap<u64, u64>;
+/// The open shares at each price of one side of a symbol, where there are any.
+pub type Prices = BTreeMap<u64, u64>;
 
 // The best price of a side with its shares, or None where the side is empty.
 pub(crate) type Best = Option<(Price, u64)>;

@@ -3,7 +3,7 @@
 use pitch_fields::{Price, Side, Symbol};
 
 /// The best price of a symbol on a side, with its shares; None where the side is empty.
-#[derive(Clone, Copy, PartialEq, Eq)]
+#[derive(Clone, Copy)]
 pub struct Quote {
     pub symbol: Symbol,
     pub side: Side,
@@ -11,7 +11,7 @@ pub struct Quote {
 }
 
 /// A quote with the sequence of the message that made it.
-#[derive(Clone, Copy, PartialEq, Eq)]
+#[derive(Clone, Copy)]
 pub struct QuoteLine {
     pub sequence: u32,
     pub quote: Quote,

@@ -38,7 +38,7 @@ fn turn_on(
 }
 
 // Takes the shares of an order away, where there is one.
-fn take_any(levels: &mut Levels, order: &Option<Order>) -> Result<(), OutOfMemory>
+fn take_order(levels: &mut Levels, order: &Option<Order>) -> Result<(), OutOfMemory>
     ensures { OnOk result (MovesLevels order.now None levels.old.entries levels.new.entries) }
 {
     match order {
@@ -50,8 +50,10 @@ fn take_any(levels: &mut Levels, order: &Option<Order>) -> Result<(), OutOfMemor
     }
 }
 
-// Puts the shares of an order, where there is one.
-pub(crate) fn put_any(levels: &mut Levels, order: &Option<Order>) -> Result<(), OutOfMemory>
+/// Adds the shares of an order to the levels, where there is one.
+///
+/// After OutOfMemory nothing is said of the levels.
+pub fn put_order(levels: &mut Levels, order: &Option<Order>) -> Result<(), OutOfMemory>
     ensures { OnOk result (MovesLevels None order.now levels.old.entries levels.new.entries) }
 {
     match order {
@@ -72,8 +74,8 @@ fn move_shares(
     ensures { OnOk result
         (MovesLevels before.now now.now levels.old.entries levels.new.entries) }
 {
-    take_any(levels, before)?;
-    put_any(levels, now)?;
+    take_order(levels, before)?;
+    put_order(levels, now)?;
     Ok(())
 }
 

@@ -3,7 +3,7 @@
 ghost use Rattle.std.specs.Prelude.{◌≡◌, ℕ, List, [], OnOk, IfOk};
 ghost use Rattle.pitch_model.specs.History.{Entry};
 ghost use Rattle.heard_items.specs.Changes.{block_change};
-ghost use Rattle.best_quotes.specs.Hearing.{StandsOn, Quotes};
+ghost use Rattle.best_quotes.specs.layers.Hearing.{StandsOn, Quotes};
 ghost use Rattle.best_quotes.specs.Stands.{Stands};
 
 use crate::hearing::hear_block;

@@ -1,6 +1,7 @@
 //! Units with the levels of their books, and without.
 
-use best_quotes::{LevelList, LeveledUnits, QuoteLines};
+use best_quotes::QuoteLines;
+use leveled_units::{LevelList, LeveledUnits};
 use pitch_fields::{HoldLimit, Price, Side, Symbol};
 use std::process::Abort;
 use unit_packets::view_block;

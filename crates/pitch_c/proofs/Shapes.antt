@@ -28,7 +28,7 @@ use Rattle.std.proofs.alloc.Global.TheLaws as global-laws
 use Rattle.std.specs.contracts.impls.GlobalAllocator.TheImpl.{ghosts}
 use Rattle.box_parts.specs.contracts.Parts as parts
 use Rattle.pitch_c.specs.Owned.{owns_at}
-use Rattle.best_quotes.specs.contracts.leveled_units.LeveledUnits.{the_row as R}
+use Rattle.leveled_units.specs.contracts.units.LeveledUnits.{the_row as R}
 use Rattle.pitch_c.specs.contracts.handle.Handle as handle
 
 abbrev pub both : Val → Val → Val

@@ -15,8 +15,8 @@ use Rattle.unit_packets.specs.Lending.{header_for}
 use Rattle.heard_items.specs.Units.{unit_history, AllHonest}
 use Rattle.heard_items.specs.Changes.{block_change}
 use Rattle.unit_clients.specs.Clients.{Units, HaveHeard}
-use Rattle.best_quotes.specs.BestFirst.{levels_of}
-use Rattle.best_quotes.specs.Hearing.{Advances}
+use Rattle.leveled_units.specs.BestFirst.{levels_of}
+use Rattle.leveled_units.specs.Hearing.{Advances}
 use Rattle.best_quotes.specs.Quoting.{quotes_of_block}
 use Rattle.pitch_c.specs.Arrays.{Fills}
 use Rattle.pitch_c.specs.Reports.{status_shown, best_shown, heard_shown, order_shown}

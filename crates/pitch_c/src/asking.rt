@@ -21,7 +21,7 @@ use crate::codes::{NO_CLIENT, NO_MEMORY, NO_SIDE, NOT_A_BLOCK, OK, TRUNCATED};
 use crate::reports::{
     BestOut, HeardOut, OrderOut, StatusOut, best_out, heard_out, order_out, status_out,
 };
-use best_quotes::{LeveledUnit, LeveledUnits};
+use leveled_units::{LeveledUnit, LeveledUnits};
 use pitch_fields::{Price, Side, Symbol};
 use pitch_messages::Order;
 use std::alloc::Global;

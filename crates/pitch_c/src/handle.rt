@@ -5,11 +5,11 @@ ghost use Rattle.std.specs.Option.{IsSome};
 ghost use Rattle.std.specs.Coded.{coded_option};
 ghost use Rattle.std.proofs.Props.{props};
 ghost use Rattle.unit_clients.specs.Clients.{Units};
-ghost use Rattle.best_quotes.specs.contracts.leveled_units.LeveledUnits.{the_row};
+ghost use Rattle.leveled_units.specs.contracts.units.LeveledUnits.{the_row};
 ghost use Rattle.pitch_c.specs.Owned.{owns_at};
 
-use best_quotes::LeveledUnits;
 use box_parts::Parts;
+use leveled_units::LeveledUnits;
 use std::alloc::Global;
 use std::marker::Model;
 

@@ -9,7 +9,7 @@ ghost use Rattle.pitch_model.specs.Levels.{best, level};
 ghost use Rattle.pitch_model.specs.Reach.{reach};
 ghost use Rattle.client_core.specs.Tracks.{Tracks, Keeps};
 ghost use Rattle.unit_clients.specs.Clients.{client_of};
-ghost use Rattle.best_quotes.specs.BestFirst.{TellsLevels};
+ghost use Rattle.leveled_units.specs.BestFirst.{TellsLevels};
 ghost use Rattle.pitch_c.specs.Codes as code;
 ghost use Rattle.pitch_c.specs.Answers.{Answers, client_code, side_code};
 ghost use Rattle.pitch_c.specs.Arrays.{filled};
@@ -19,7 +19,7 @@ ghost use Rattle.pitch_c.specs.Reports.{level_shown};
 use crate::codes::{NO_CLIENT, NO_MEMORY, NO_SIDE, OK};
 use crate::lists::fitting;
 use crate::reports::{LevelOut, level_out};
-use best_quotes::{LevelList, LeveledUnit, LeveledUnits};
+use leveled_units::{LevelList, LeveledUnit, LeveledUnits};
 use pitch_fields::{OutOfMemory, Price, Side, Symbol};
 use std::alloc::Global;
 

@@ -35,7 +35,7 @@ use crate::levels::{tell_level, tell_levels};
 use crate::lists::{tell_orders, tell_states};
 use crate::quoting::hear_quoted_first;
 use crate::reports::{BestOut, HeardOut, LevelOut, OrderOut, QuoteOut, StateOut, StatusOut};
-use best_quotes::LeveledUnits;
+use leveled_units::LeveledUnits;
 use std::alloc::Global;
 
 // Boxes new clients.

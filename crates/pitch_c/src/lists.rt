@@ -17,7 +17,7 @@ ghost use Rattle.pitch_c.specs.Reports.{order_shown, state_shown};
 
 use crate::codes::{NO_CLIENT, NO_MEMORY, OK};
 use crate::reports::{OrderOut, StateOut, order_out, state_out};
-use best_quotes::{LeveledUnit, LeveledUnits};
+use leveled_units::{LeveledUnit, LeveledUnits};
 use order_book::{OrderList, StatusList};
 use pitch_fields::OutOfMemory;
 use pitch_messages::{Order, TradingState};

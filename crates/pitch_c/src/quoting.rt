@@ -12,7 +12,8 @@ ghost use Rattle.pitch_c.specs.Reports.{quote_shown};
 use crate::codes::{NO_MEMORY, NOT_A_BLOCK, OK, TRUNCATED, UNTOLD};
 use crate::lists::fitting;
 use crate::reports::{HeardOut, QuoteOut, heard_out, quote_out};
-use best_quotes::{LeveledUnits, QuoteLine, QuoteLines};
+use best_quotes::{QuoteLine, QuoteLines};
+use leveled_units::LeveledUnits;
 use std::alloc::Global;
 use unit_packets::{BlockView, view_block};
 

@@ -3,7 +3,7 @@ use Rattle.client_core.specs.Tracks.{Tracks, Keeps}
 use Rattle.client_core.specs.declared.client.UnitClient.{UnitClient}
 use Rattle.client_core.specs.Client.{current_book}
 use Rattle.pitch_model.specs.Book.{Book}
-use Rattle.best_quotes.specs.BestFirst.{TellsLevels}
+use Rattle.leveled_units.specs.BestFirst.{TellsLevels}
 use Rattle.pitch_c.proofs.levels.append_levels.Goals as goal
 
 pub returns-clause-levels : goal.returns-clause-levels

@@ -3,7 +3,7 @@ use Rattle.std.specs.Option.{IsSome, IsSomeAnd}
 use Rattle.pitch_fields.specs.declared.side.Side.{Side}
 use Rattle.pitch_model.specs.Levels.{best}
 use Rattle.heard_items.specs.Units.{unit_history}
-use Rattle.best_quotes.specs.BestFirst.{levels_of}
+use Rattle.leveled_units.specs.BestFirst.{levels_of}
 use Rattle.pitch_c.specs.Arrays.{Fills}
 use Rattle.pitch_c.specs.Clients.{OfReachedBook, reached_book}
 use Rattle.pitch_c.specs.Reports.{level_shown}

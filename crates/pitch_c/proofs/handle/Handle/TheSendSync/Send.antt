@@ -13,8 +13,8 @@ use Rattle.std.specs.Prelude.{Option, None, Some}
 use Rattle.std.specs.declared.alloc.Global.{Global}
 use Rattle.std.proofs.Crossing as heap
 use Rattle.std.proofs.alloc.Global.TheSendSync as handle
-use Rattle.best_quotes.specs.contracts.leveled_units.LeveledUnits.{the_row as R}
-use Rattle.best_quotes.proofs.leveled_units.LeveledUnits.TheSendSync.{the_send as clients}
+use Rattle.leveled_units.specs.contracts.units.LeveledUnits.{the_row as R}
+use Rattle.leveled_units.proofs.units.LeveledUnits.TheSendSync.{the_send as clients}
 use Rattle.pitch_c.specs.Owned.{owns_at}
 use Rattle.pitch_c.specs.contracts.handle.Handle.{the_row, the_type}
 

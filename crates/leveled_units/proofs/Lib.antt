@@ -1,0 +1,5 @@
+pub mod Answered
+pub mod Laid
+pub mod Rising
+pub mod Starting
+pub mod Examples

@@ -1,0 +1,40 @@
+-- What hearing a block does to a leveled unit, and to the lines.
+use Rattle.std.specs.Prelude.{◌≡◌, ◌<◌, ℕ, List, ◌∷◌}
+use Rattle.unit_packets.specs.Blocks.{Block}
+use Rattle.pitch_model.specs.History.{Entry, Raw}
+use Rattle.pitch_model.specs.Honest.{Honest}
+use Rattle.pitch_model.specs.Reach.{reach}
+use Rattle.heard_items.specs.HeardBlocks.{heard_block}
+use Rattle.heard_items.specs.Units.{unit_history, AllHonest}
+use Rattle.unit_clients.specs.Clients.{Units, HaveHeard}
+use Rattle.client_core.specs.Tracks.{Tracks, Keeps}
+use Rattle.order_book.specs.Turns.{turns_of}
+use Rattle.order_book.specs.declared.turn.Turn.{Turn}
+use Rattle.client_core.specs.Client.{current_book, Applied}
+use Rattle.client_core.specs.declared.client.UnitClient.{UnitClient}
+use Rattle.best_quotes.specs.Quoting.{quotes_of_block}
+use Rattle.best_quotes.specs.declared.quote.QuoteLine.{QuoteLine}
+
+-- a client applied messages that did all this to its orders
+abbrev pub TurnsBook : UnitClient → UnitClient → List Turn → Type 0
+TurnsBook old new turns =
+    (raws : List Raw) × (turns ≡ turns_of (current_book old) raws) × Applied old new raws
+
+-- of any venue to which a client keeps, the lines are those of the block
+abbrev pub TellsAnew : UnitClient → List QuoteLine → Block → Type 0
+TellsAnew client lines block =
+    (Image : List Raw → ℕ → List Raw) (V : List Raw) (H : ℕ) (E : List Entry)
+    → Tracks client H E → Honest Image V (heard_block block E) → Keeps client V
+    → lines ≡ quotes_of_block H V E block
+
+-- a block takes the reach of a history on
+abbrev pub Advances : ℕ → List Entry → Block → Type 0
+Advances H E block = reach H E < reach H (heard_block block E)
+
+-- of whatever blocks the clients of a stream heard, where these and the next one speak of one
+-- venue's messages for each unit, the lines are those of the next
+abbrev pub TellBlock : Units → List QuoteLine → Block → Type 0
+TellBlock units lines block =
+    (before : List Block) (Image : List Raw → ℕ → List Raw) (Vs : ℕ → List Raw)
+    → HaveHeard units before → AllHonest Image Vs (block ∷ before)
+    → lines ≡ quotes_of_block units.limit (Vs block.unit) (unit_history block.unit before) block

@@ -1,0 +1,3 @@
+pub mod BestFirst
+pub mod Hearing
+pub mod layers

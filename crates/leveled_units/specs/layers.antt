@@ -1,0 +1,2 @@
+-- What only the layers tell one another: no top call needs it.
+pub mod Leveled
