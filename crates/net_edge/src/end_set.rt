@@ -6,7 +6,7 @@ ghost use Rattle.net_edge.specs.layers.Ends.{and_end, has_end, no_ends};
 use pitch_io::LinkEnd;
 
 /// Some of the four ends.
-#[derive(Clone, Copy, PartialEq, Eq)]
+#[derive(Clone, Copy)]
 pub(crate) struct EndSet {
     grp_client: bool,
     grp_server: bool,

@@ -3,7 +3,7 @@
 use pitch_fields::OutOfMemory;
 
 /// Why a demo ends early.
-#[derive(Clone, Copy, PartialEq, Eq)]
+#[derive(Clone, Copy)]
 pub enum DemoError {
     /// The net failed, and its count of faults rose.
     NetFault,

@@ -88,6 +88,13 @@ impl<J: Naming, R: FixedRun> Past<J, R> {
         if self.covers(other) {
             return;
         }
+        self.set_to(other);
+    }
+
+    // Becomes a copy of the other.
+    pub(crate) fn set_to(&mut self, other: &Past<J, R>)
+        ensures { self.new ≡ other.now }
+    {
         *self = other.again();
     }
 

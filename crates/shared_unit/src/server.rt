@@ -86,35 +86,42 @@ fn end<J: Naming, R: FixedRun>(
     *eye = all;
 }
 
-// The history of a copy, where that has all that was seen and so many operations. From a shorter
-// copy, which never comes, nothing is answered.
-fn history_of<J: Naming, R: FixedRun>(
+// Ends an answer, for want of memory, from a copy that lacks any of what was seen or of so many
+// operations. None such ever comes.
+fn expect_all<J: Naming, R: FixedRun>(
     store: &Store<J, R>,
     seen: &Past<J, R>,
     published: u64,
-) -> Result<Past<J, R>, OutOfMemory>
-    ensures copy { IfOk result (λ history. history ≡ store.now) }
-    ensures later { IfOk result (λ history. IsPrefix seen.now history) }
-    ensures enough { IfOk result (λ history. published ≤ length history) }
+) -> Result<(), OutOfMemory>
+    ensures later { OnOk result (IsPrefix seen.now store.now) }
+    ensures enough { OnOk result (published ≤ length store.now) }
 {
     if store.past().len() < published || !store.past().covers(seen) {
         return Err(OutOfMemory);
     }
-    Ok(store.past().again())
+    Ok(())
 }
 
-// Takes over the history of a copy, where that has all that was seen and so many operations.
-fn catch_up<J: Naming, R: FixedRun>(store: &Store<J, R>, past: &mut Past<J, R>, published: u64)
+// Takes over the history of the published copy, where that has all that was seen and so many
+// operations.
+fn catch_up<J: Naming, R: FixedRun>(
+    inner: &mut ReadHandle<Store<J, R>>,
+    past: &mut Past<J, R>,
+    published: u64,
+)
     ensures later { IsPrefix past.old past.new }
 {
-    if let Ok(history) = history_of(store, past, published) {
-        *past = history;
+    let Some(store) = inner.enter() else {
+        return;
+    };
+    if let Ok(()) = expect_all(&store, past, published) {
+        past.set_to(store.past());
     }
 }
 
-// Looks messages up in a copy that has all that was seen and published.
+// Looks messages up in the published copy, where it has all that was seen and published.
 fn look_in<J: Naming, R: FixedRun>(
-    store: &Store<J, R>,
+    inner: &mut ReadHandle<Store<J, R>>,
     past: &mut Past<J, R>,
     published: u64,
     first: u32,
@@ -132,15 +139,18 @@ fn look_in<J: Naming, R: FixedRun>(
     ensures same { OnErr result (past.new ≡ past.old) }
     ensures err { OnErr result (out.new.items ≡ out.old.items) }
 {
-    let history = history_of(store, past, published)?;
+    let Some(store) = inner.enter() else {
+        return Err(OutOfMemory);
+    };
+    expect_all(&store, past, published)?;
     let found = store.look(first, count, out)?;
-    *past = history;
+    past.set_to(store.past());
     Ok(found)
 }
 
-// Whether messages are in a copy that has all that was seen and published.
+// Whether messages are in the published copy, where it has all that was seen and published.
 fn find_in<J: Naming, R: FixedRun>(
-    store: &Store<J, R>,
+    inner: &mut ReadHandle<Store<J, R>>,
     past: &mut Past<J, R>,
     published: u64,
     first: u32,
@@ -153,13 +163,18 @@ fn find_in<J: Naming, R: FixedRun>(
     ensures enough { OnOk result (published ≤ length past.new) }
     ensures same { OnErr result (past.new ≡ past.old) }
 {
-    *past = history_of(store, past, published)?;
+    let Some(store) = inner.enter() else {
+        return Err(OutOfMemory);
+    };
+    expect_all(&store, past, published)?;
+    past.set_to(store.past());
     Ok(store.find(first, count))
 }
 
-// Looks messages up in a copy that has all that was seen and published, and packs them.
+// Looks messages up in the published copy, where it has all that was seen and published, and packs
+// them.
 fn pack_in<J: Naming, R: FixedRun>(
-    store: &Store<J, R>,
+    inner: &mut ReadHandle<Store<J, R>>,
     past: &mut Past<J, R>,
     published: u64,
     alloc: Global,
@@ -177,15 +192,18 @@ fn pack_in<J: Naming, R: FixedRun>(
     ensures same { OnErr result (past.new ≡ past.old) }
     ensures err { OnErr result (out.new.items ≡ out.old.items) }
 {
-    let history = history_of(store, past, published)?;
+    let Some(store) = inner.enter() else {
+        return Err(OutOfMemory);
+    };
+    expect_all(&store, past, published)?;
     let found = store.pack(alloc, unit, first, count, out)?;
-    *past = history;
+    past.set_to(store.past());
     Ok(found)
 }
 
-// Looks an image up in a copy that has all that was seen and published.
+// Looks an image up in the published copy, where it has all that was seen and published.
 fn image_in<J: Naming, R: FixedRun>(
-    store: &Store<J, R>,
+    inner: &mut ReadHandle<Store<J, R>>,
     past: &mut Past<J, R>,
     published: u64,
     sequence: u32,
@@ -198,9 +216,12 @@ fn image_in<J: Naming, R: FixedRun>(
     ensures same { OnErr result (past.new ≡ past.old) }
     ensures err { OnErr result (out.new.items ≡ out.old.items) }
 {
-    let history = history_of(store, past, published)?;
+    let Some(store) = inner.enter() else {
+        return Err(OutOfMemory);
+    };
+    expect_all(&store, past, published)?;
     let imaged = store.image(sequence, out)?;
-    *past = history;
+    past.set_to(store.past());
     Ok(imaged)
 }
 
@@ -283,10 +304,8 @@ impl<J: Naming, R: FixedRun> Server<J, R> {
             return Err(OutOfMemory);
         }
         let begun = begin(&*self.book, &self.eye, self.number);
-        let found = match self.inner.enter() {
-            Some(store) => look_in(&store, &mut self.past, begun.published, first, count, out)?,
-            None => return Err(OutOfMemory),
-        };
+        let past = &mut self.past;
+        let found = look_in(&mut self.inner, past, begun.published, first, count, out)?;
         end(&mut self.eye, begun, &self.past, self.number);
         // What was seen is legal.
         let _seen = self.past.len();
@@ -307,10 +326,13 @@ impl<J: Naming, R: FixedRun> Server<J, R> {
             return Err(OutOfMemory);
         }
         let begun = begin(&*self.book, &self.eye, self.number);
-        let found = match self.inner.enter() {
-            Some(store) => find_in(&store, &mut self.past, begun.published, first, count)?,
-            None => return Err(OutOfMemory),
-        };
+        let found = find_in(
+            &mut self.inner,
+            &mut self.past,
+            begun.published,
+            first,
+            count,
+        )?;
         end(&mut self.eye, begun, &self.past, self.number);
         Ok(found)
     }
@@ -337,20 +359,16 @@ impl<J: Naming, R: FixedRun> Server<J, R> {
             return Err(OutOfMemory);
         }
         let begun = begin(&*self.book, &self.eye, self.number);
-        let past = &mut self.past;
-        let found = match self.inner.enter() {
-            Some(store) => pack_in(
-                &store,
-                past,
-                begun.published,
-                alloc,
-                unit,
-                first,
-                count,
-                out,
-            )?,
-            None => return Err(OutOfMemory),
-        };
+        let found = pack_in(
+            &mut self.inner,
+            &mut self.past,
+            begun.published,
+            alloc,
+            unit,
+            first,
+            count,
+            out,
+        )?;
         end(&mut self.eye, begun, &self.past, self.number);
         Ok(found)
     }
@@ -374,10 +392,13 @@ impl<J: Naming, R: FixedRun> Server<J, R> {
             return Err(OutOfMemory);
         }
         let begun = begin(&*self.book, &self.eye, self.number);
-        let imaged = match self.inner.enter() {
-            Some(store) => image_in(&store, &mut self.past, begun.published, sequence, out)?,
-            None => return Err(OutOfMemory),
-        };
+        let imaged = image_in(
+            &mut self.inner,
+            &mut self.past,
+            begun.published,
+            sequence,
+            out,
+        )?;
         end(&mut self.eye, begun, &self.past, self.number);
         // What was seen is legal.
         let _seen = self.past.len();
@@ -420,9 +441,7 @@ impl<J: Naming, R: FixedRun> Server<J, R> {
         ensures later { IsPrefix self.old.history self.new.history }
     {
         let begun = begin(&*self.book, &self.eye, self.number);
-        if let Some(store) = self.inner.enter() {
-            catch_up(&store, &mut self.past, begun.published);
-        }
+        catch_up(&mut self.inner, &mut self.past, begun.published);
         if self.past.len() < begun.published {
             self.cut_off = true;
             return;

@@ -15,7 +15,7 @@ use pitch_fields::OutOfMemory;
 use pitch_text::{ScheduleEntry, Verb, print_entry};
 
 /// What a storm is made of.
-#[derive(Clone, Copy, PartialEq, Eq)]
+#[derive(Clone, Copy)]
 pub struct Storm {
     /// The number that its losses and its plan are made from.
     pub number: u64,

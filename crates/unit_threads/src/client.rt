@@ -15,7 +15,7 @@ use crate::course::Course;
 use crate::ends::{ClientEnds, Request};
 use crate::outbox::Outbox;
 use client_core::UnitClient;
-use crossbeam_channel::{Receiver, select};
+use crossbeam_channel::{Receiver, RecvError, select};
 use drill_client::{
     DrillRun, Reply, Word, begin, count_datagram, drill_hold, hear_reply, hear_word,
 };
@@ -40,6 +40,24 @@ enum Next<R: DrillRun> {
     NoWords,
 }
 
+impl<R: DrillRun> Next<R> {
+    // What came from the publisher.
+    fn said(got: Result<Word<R>, RecvError>) -> Next<R> {
+        match got {
+            Ok(word) => Next::Word(word),
+            Err(_) => Next::NoWords,
+        }
+    }
+
+    // What came from the service.
+    fn replied(got: Result<Reply<R>, RecvError>) -> Next<R> {
+        match got {
+            Ok(reply) => Next::Reply(reply),
+            Err(_) => Next::NoReplies,
+        }
+    }
+}
+
 /// What a client counts.
 #[derive(Drop)]
 struct Counts {
@@ -59,14 +77,6 @@ impl Counts {
     }
 }
 
-// Waits for a word of the publisher.
-fn next_word<R: DrillRun, W: Wait>(rt: &W, words: &Receiver<Word<R>>) -> Next<R> {
-    match words.recv(rt) {
-        Ok(word) => Next::Word(word),
-        Err(_) => Next::NoWords,
-    }
-}
-
 // Waits for a word of the publisher or of the service.
 fn next_of_both<R: DrillRun, W: Wait + Clock>(
     rt: &W,
@@ -75,14 +85,8 @@ fn next_of_both<R: DrillRun, W: Wait + Clock>(
 ) -> Next<R> {
     select! {
         rt;
-        recv(words) -> got => match got {
-            Ok(word) => Next::Word(word),
-            Err(_) => Next::NoWords,
-        },
-        recv(replies) -> got => match got {
-            Ok(reply) => Next::Reply(reply),
-            Err(_) => Next::NoReplies,
-        },
+        recv(words) -> got => Next::said(got),
+        recv(replies) -> got => Next::replied(got),
     }
 }
 
@@ -116,7 +120,7 @@ impl<J: Naming, R: DrillRun + FixedRun> Links<J, R> {
         if self.served {
             next_of_both(rt, &self.words, &self.replies)
         } else {
-            next_word(rt, &self.words)
+            Next::said(self.words.recv(rt))
         }
     }
 }
@@ -163,24 +167,25 @@ fn take_word<J: Naming, R: DrillRun + FixedRun, W: Wait, G: Gate>(
     course: &Course<R>,
     client: &mut UnitClient,
     counts: &mut Counts,
-    word: Word<R>,
+    word: &Word<R>,
     asks: &mut Outbox<Request<J, R>>,
 ) -> Result<(), OutOfMemory>
-    ensures heard { OnOk result (counts.new.heard ≡ heard_after (is_sent word) counts.old.heard) }
+    ensures heard { OnOk result
+        (counts.new.heard ≡ heard_after (is_sent word.now) counts.old.heard) }
     ensures history { OnOk result ((H : ℕ) (E : List Entry) → Follows client.old H
         (plan R.number R.unit R.count) E → Follows client.new H (plan R.number R.unit R.count)
-        (after_heard (is_sent word) H counts.old.heard (heard_word word E))) }
+        (after_heard (is_sent word.now) H counts.old.heard (heard_word word.now E))) }
     ensures asks { OnOk result
-        ((H : ℕ) (E : List Entry) → Follows client.old H (plan R.number R.unit R.count) E
-        → asks.new ≡ asks.old ++ asks_after (is_sent word) H counts.old.heard (heard_word word E)) }
+        ((H : ℕ) (E : List Entry) → Follows client.old H (plan R.number R.unit R.count) E → asks.new
+        ≡ asks.old ++ asks_after (is_sent word.now) H counts.old.heard (heard_word word.now E)) }
 {
-    if !is_sent(&word) {
-        hear_word(client, &word)?;
+    if !is_sent(word) {
+        hear_word(client, word)?;
         return Ok(());
     }
     let work = counts.next(course);
     gate.before(work);
-    hear_word(client, &word)?;
+    hear_word(client, word)?;
     gate.after(work);
     tick(rt, client, counts, asks)?;
     Ok(())
@@ -235,7 +240,7 @@ fn hear_next<J: Naming, R: DrillRun + FixedRun, W: Wait + Clock, G: Gate>(
             Ok(true)
         }
         Next::Word(word) => {
-            take_word(rt, gate, course, client, counts, word, &mut links.asks)?;
+            take_word(rt, gate, course, client, counts, &word, &mut links.asks)?;
             Ok(true)
         }
         Next::Reply(reply) => {

@@ -125,7 +125,8 @@ impl Servers {
 
     /// What waits to be put to a session with the proxy; nothing where there is none.
     pub fn said_by_proxy(&self, id: u32) -> &[u8]
-        ensures { OfServers self.now (λ s now. result.now ≡ waiting_in (session_of id now.proxies)) }
+        ensures { OfServers self.now
+            (λ s now. result.now ≡ waiting_in (session_of id now.proxies)) }
     {
         self.proxies.said_to(id)
     }

@@ -5,7 +5,7 @@ ghost use Rattle.std.specs.Prelude.{◌≡◌};
 use pitch_io::Line;
 
 // Of each line, the greatest number of a datagram that the client got; 0 before the first.
-#[derive(Clone, Copy, PartialEq, Eq)]
+#[derive(Clone, Copy)]
 pub(crate) struct Passed {
     pub(crate) a: usize,
     pub(crate) b: usize,

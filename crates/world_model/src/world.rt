@@ -448,7 +448,7 @@ impl World {
 }
 
 // What a verb did: its outcome, and whether the hold overflowed with what was heard.
-#[derive(Clone, Copy, PartialEq, Eq)]
+#[derive(Clone, Copy)]
 struct Acted {
     outcome: Outcome,
     overflow: bool,
