@@ -4,11 +4,12 @@
     bench/prove_program.py NAME
 
 Each crate gets the proof that the gate makes of it: this calls the gate of the kit's `rt` over these
-crates (`ci_over`), without the tests, the edits that must fail and the runs of programs, and in an
-order of its own. So what is proved is kept where the gate keeps it, beside the kit, and taken from
-there: a run that was broken off goes on with the crates that it had not ended, a gate after it proves
-these crates no more, and after a gate this takes seconds. What rt made before in `out/` is removed,
-but for what `rt check` kept.
+crates, without the tests, the edits that must fail and the runs of programs, and in an order of its
+own. A run that was broken off goes on with the crates that it had not ended. Where the kit's gate
+keeps what it proved (`ci_over`), that is kept there, beside the kit: a gate after it proves these
+crates no more, and after a gate this takes seconds. Where it keeps nothing (`ci_from_nothing`), what
+is proved stands in each crate's `out/`. What rt made there before is removed, but for what `rt check`
+kept.
 
 The longest chain of crates goes first, a crate begins as soon as those below it are built, and where
 fewer are ready than there are processors, the first gets three or four jobs. A line is written for
@@ -16,29 +17,32 @@ each crate that has ended. The status is 0 where all is proved and built, 1 wher
 where rt stopped before any proof, and 3 where the gate of this kit is another than this was written
 for, or does not work in this folder.
 """
-import importlib.machinery, importlib.util, inspect, os, shutil, signal, sys, time, traceback
+import inspect, os, signal, sys, time, traceback
 from concurrent.futures import FIRST_COMPLETED, ThreadPoolExecutor, wait
 
-# What the text of the kit's gate has where it calls what is replaced here.
-CALLS = ('set_aside(root, ', 'edits_of(crate)', 'crate.has_tests()', 'in_lanes(tasks)', 'run(crate, tests, ')
+sys.dont_write_bytecode = True
+from the_kit import crates_of, the_kit
+
+# The kit's gate by its name, and what its text has where it calls what is replaced here.
+CALLS = ('edits_of(crate)', 'crate.has_tests()', 'in_lanes(tasks)', 'run(crate, tests, ')
+GATES = {
+    'ci_over': ('set_aside(root, ', *CALLS),
+    'ci_from_nothing': ('crates_of(root, ', 'rtlib.stop_on_unread(', 'crate.ci([', *CALLS),
+}
 # What a proof was seen to take at most of the memory that the kit reckons for it.
 SEEN = 0.5
 
 
-def the_kit():
-    """The kit's `rt` as a module. Reading it runs nothing."""
-    sys.dont_write_bytecode = True
-    path = os.path.realpath(shutil.which('rt') or sys.exit('rt is not on the path'))
-    loader = importlib.machinery.SourceFileLoader('rt_of_the_kit', path)
-    made = importlib.util.module_from_spec(importlib.util.spec_from_loader(loader.name, loader))
-    sys.modules[loader.name] = made
-    loader.exec_module(made)
-    text = inspect.getsource(made.ci_over)
-    lacking = [call for call in CALLS if call not in text]
+def gate_of(rt):
+    """The name of the kit's gate, once it is seen to call what is replaced here."""
+    name = next((it for it in GATES if hasattr(rt, it)), None)
+    if name is None:
+        raise LookupError(f'this kit has no gate named {" or ".join(GATES)}')
+    text = inspect.getsource(getattr(rt, name))
+    lacking = [call for call in GATES[name] if call not in text]
     if lacking:
         raise LookupError(f'the gate of this kit does not call {lacking[0]}')
-    inspect.signature(made.ci_over).bind(None, False, [])
-    return made
+    return name
 
 
 def chains(tasks):
@@ -107,20 +111,71 @@ def in_order(tasks, lanes, memory):
     return given
 
 
-def narrow(rt, crates):
+def narrow(rt):
     """Has the gate of the kit prove, and do nothing else, in the order of this file."""
-
-    def set_aside(root, names, aside):
-        for crate in crates:
-            for made in ('rlib', *(crate.name + end for end in rt.BACKENDS.values())):
-                rt.clear(f'{crate.folder}/out/{made}')
-
     lanes = int(os.environ.get('RT_JOBS') or rt.processors())
-    rt.set_aside = set_aside
     rt.edits_of = lambda crate: ([], [])
     rt.Crate.has_tests = lambda crate: False
     rt.in_lanes = lambda tasks: in_order(tasks, lanes, 0.85 * rt.free())
     rt.run = lambda crate, tests, ending: True
+
+
+def over_kept(rt, every, named):
+    """The call that proves by a gate which keeps what it proved."""
+    inspect.signature(rt.ci_over).bind(None, False, [])
+    if rt.Kept([]).at is None:
+        print('pitch: nothing can be kept beside the kit: broken off, this begins anew', flush=True)
+
+    def set_aside(root, names, aside):
+        for crate in [named, *named.below()]:
+            for made in ('rlib', *(crate.name + end for end in rt.BACKENDS.values())):
+                rt.clear(f'{crate.folder}/out/{made}')
+
+    rt.set_aside = set_aside
+    return lambda: rt.where_disk_lasts(rt.ci_over, None, False, [named.name])
+
+
+def keep_in_crates(rt):
+    """Has a library count as proved where its `out/rlib` was made here of the same sources and kit,
+    and where none of those below it was proved anew."""
+    prove, stamp, stamps, anew = rt.Crate.ci, rt.Crate.stamp, {}, set()
+
+    def stamp_once(crate):
+        if crate.name not in stamps:
+            stamps[crate.name] = stamp(crate)
+        return stamps[crate.name]
+
+    def prove_or_take(crate, flags, tests):
+        mark = f'{crate.folder}/out/rlib/proved'
+        is_old = anew.isdisjoint(it.name for it in crate.below()) and os.path.isdir(crate.rlib)
+        if is_old and rt.rtlib.text_of(mark) == crate.stamp():
+            rt.say(f'{crate.name}, which an earlier run proved', crate.out)
+            return 0
+        anew.add(crate.name)
+        status = prove(crate, flags, tests)
+        # What was edited meanwhile has another stamp.
+        if status == 0 and crate.makes_rlib() and stamp(crate) == crate.stamp():
+            with open(mark, 'w', encoding='utf-8') as it:
+                it.write(crate.stamp())
+        return status
+
+    rt.Crate.stamp, rt.Crate.ci = stamp_once, prove_or_take
+
+
+def from_nothing(rt, every, named):
+    """The call that proves by a gate which keeps nothing."""
+    unread = rt.rtlib.stop_on_unread
+    rt.rtlib.stop_on_unread = lambda folder, crates: unread(folder, every)
+    lowest_first = sorted([named, *named.below()], key=lambda it: len(it.below()))
+    rt.crates_of = lambda root, aside: lowest_first
+    # The gate compares what two compilers make; what is used is LLVM's.
+    compile_by = rt.Crate.compile_by
+    rt.Crate.compile_by = lambda crate, backend, *how: backend == 'llvm' and compile_by(crate, backend, *how)
+    keep_in_crates(rt)
+    return lambda: rt.ci_from_nothing(None)
+
+
+PROOFS = {'ci_over': over_kept, 'ci_from_nothing': from_nothing}
 
 
 def main():
@@ -132,14 +187,14 @@ def main():
     signal.signal(signal.SIGINT, signal.SIG_DFL)
     try:
         rt = the_kit()
-        rt.Crate.allowed = rt.handles_of(top)
-        if rt.Kept([]).at is None:
-            print('pitch: nothing can be kept beside the kit: broken off, this begins anew', flush=True)
-        named = [it for it in rt.crates_of(top) if it.name == sys.argv[1]]
-        narrow(rt, [below for it in named for below in [it, *it.below()]])
+        proof_of = PROOFS[gate_of(rt)]
+        every = crates_of(rt, top)
+        named = next(it for it in every if it.name == sys.argv[1])
+        narrow(rt)
+        prove = proof_of(rt, every, named)
     except SystemExit:
         return 3
-    return rt.where_disk_lasts(rt.ci_over, None, False, [sys.argv[1]])
+    return prove()
 
 
 def status():
@@ -151,4 +206,5 @@ def status():
         return 3
 
 
-sys.exit(status())
+if __name__ == '__main__':
+    sys.exit(status())

@@ -4,7 +4,8 @@
     docs/check_launcher.py
 
 The stand-in of the program writes its words and how many bytes it read; that of `rt` has no gate, so
-the first use goes by `rt all check`. Nothing is proved. A case that wants a command which is not on
+the first use goes by `rt all check`. Another has a gate that keeps nothing, and three crates, to try
+what bench/prove_program.py keeps of it. Nothing is proved. A case that wants a command which is not on
 the path is left out. The last line is `N passed, M failed`; the exit status is 0 only where none
 failed.
 """
@@ -29,6 +30,54 @@ elif words[:2] == ['all', 'check']:
 elif words[0] == 'run':
     shutil.copy(os.environ['STAND_IN'], 'out/' + os.path.basename(os.getcwd()))
 sys.exit(int(os.environ.get('RT_' + words[0].upper(), '0')))
+'''
+GATE = '''#!/usr/bin/env python3
+import os, shutil, sys, types
+BELOW = {'low': [], 'high': ['low'], 'pitch': ['low', 'high']}
+
+def text_of(file):
+    return open(file).read() if os.path.isfile(file) else ''
+
+class Crate:
+    def __init__(self, name):
+        self.name, self.folder, self.out = name, os.path.join(os.getcwd(), 'crates', name), sys.stdout
+        self.rlib = f'{self.folder}/out/rlib/{name}.rlib'
+    def below(self):
+        return [it for it in CRATES if it.name in BELOW[self.name]]
+    def makes_rlib(self):
+        return self.name != 'pitch'
+    def has_tests(self):
+        return True
+    def stamp(self):
+        return self.name + text_of(f'{self.folder}/src') + ''.join(it.stamp() for it in self.below())
+    def compile_by(self, backend, *how):
+        return 1
+    def ci(self, flags, tests):
+        shutil.rmtree(f'{self.folder}/out', ignore_errors=True)
+        if self.makes_rlib():
+            os.makedirs(self.rlib)
+        print('proving', self.name)
+        return int(self.name == os.environ.get('FAILS'))
+
+CRATES = [Crate(it) for it in BELOW]
+rtlib = types.SimpleNamespace(text_of=text_of, crates_below=lambda top: CRATES, stop_on_unread=None)
+processors, free, handles_of = lambda: 4, lambda: 10 ** 9, lambda root: ()
+say = lambda text, out: print('rt:', text)
+crates_of = lambda root, aside: sys.exit('these crates are to be proved as they are')
+edits_of = lambda crate: sys.exit('no edit is to be tried')
+in_lanes = run = None
+
+def ci_from_nothing(aside):
+    root, unread = '.', rtlib.stop_on_unread  # rtlib.stop_on_unread(root, crates)
+    tasks = {}
+    for crate in crates_of(root, aside):
+        waits = [(it.name, 'proof') for it in crate.below()]
+        prove = lambda given, jobs, crate=crate: crate.ci(['--jobs', str(jobs)], False) == 0
+        tasks[crate.name, 'proof'] = waits, 1, 1, prove
+        tasks[crate.name, 'tests'] = waits, 1, 1, lambda given, jobs, crate=crate: not crate.has_tests()
+        tasks[crate.name, 'edits'] = waits, 1, 1, lambda given, jobs, crate=crate: not edits_of(crate)[0]
+    given = in_lanes(tasks)
+    return int(not all(given[crate.name, 'proof'] and run(crate, tests, '') for crate in CRATES for tests in (0, 1)))
 '''
 SAMPLE, CAPTURE = 'examples/sample.pitch', 'examples/captures/sample.pcap'
 # The words, what the program is to be given of them, how many bytes, and the command that is wanted.
@@ -110,6 +159,31 @@ class Checks:
         done = self.run('follow')
         self.hold('the build after it', done.returncode == 0 and 'proving' in done.stderr, done)
 
+    def proofs(self, folder):
+        """What is proved of three crates by a gate that keeps nothing: first, after a failure, and anew."""
+        tree, kit = folder / 'three', folder / 'gate'
+        shutil.copytree(TOP / 'bench', tree / 'bench')
+        for name in ('low', 'high', 'pitch'):
+            (tree / 'crates' / name).mkdir(parents=True)
+        kit.mkdir()
+        (kit / 'rt').write_text(GATE)
+        (kit / 'rt').chmod(0o755)
+        path = f'{kit}:{os.environ["PATH"]}'
+
+        def hold(what, status, proved, **more):
+            how = {'cwd': tree, 'env': {**os.environ, 'PATH': path, **more}, 'capture_output': True, 'text': True}
+            done = subprocess.run([sys.executable, 'bench/prove_program.py', 'pitch'], **how)
+            names = [line.split()[1] for line in done.stdout.splitlines() if line.startswith('proving ')]
+            self.hold(what, (done.returncode, names) == (status, proved), done)
+
+        hold('a crate that is not proved', 1, ['low', 'high'], FAILS='high')
+        hold('the proofs after it', 0, ['high', 'pitch'])
+        hold('proofs that are kept', 0, ['pitch'])
+        (tree / 'crates/high/src').write_text('another')
+        hold('an edited crate', 0, ['high', 'pitch'])
+        shutil.rmtree(tree / 'crates/low/out')
+        hold('crates above one that is proved anew', 0, ['low', 'high', 'pitch'])
+
     def words(self):
         for words, given, count, wanted in WORDS:
             if wanted is None or shutil.which(wanted):
@@ -155,6 +229,7 @@ def main():
     with tempfile.TemporaryDirectory() as folder:
         checks = Checks(Path(folder))
         checks.build()
+        checks.proofs(Path(folder))
         checks.words()
         checks.live()
     print(f'{checks.passed} passed, {checks.failed} failed')

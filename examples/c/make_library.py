@@ -9,8 +9,6 @@ has the kit's `rattle` compile what that proof says is proved: the two steps by 
 a program. Its one line says what was made, or why nothing was: the status is then 3, and nothing is
 wrong with the tree.
 """
-import importlib.machinery
-import importlib.util
 import os
 import shutil
 import sys
@@ -19,20 +17,13 @@ import tempfile
 TOP = os.path.dirname(os.path.dirname(os.path.dirname(os.path.realpath(__file__))))
 LIBRARY = "out/libpitch_c.a"
 
+sys.dont_write_bytecode = True
+sys.path.append(os.path.join(TOP, "bench"))
+from the_kit import crates_of, the_kit
+
 
 class Nothing(Exception):
     """Why no library was made."""
-
-
-def the_kit():
-    """The kit's `rt` as a module. Reading it runs nothing."""
-    sys.dont_write_bytecode = True
-    path = os.path.realpath(shutil.which("rt") or "rt")
-    loader = importlib.machinery.SourceFileLoader("rt_of_the_kit", path)
-    made = importlib.util.module_from_spec(importlib.util.spec_from_loader(loader.name, loader))
-    sys.modules[loader.name] = made
-    loader.exec_module(made)
-    return made
 
 
 def without(words, flags):
@@ -47,8 +38,7 @@ def make(rt):
     """Proves the crate, and compiles it."""
     os.chdir(TOP)
     rt.rtlib.guarded()
-    rt.Crate.allowed = rt.handles_of(TOP)
-    crate = next(it for it in rt.crates_of(TOP) if it.name == "pitch_c")
+    crate = next(it for it in crates_of(rt, TOP) if it.name == "pitch_c")
     if not all(os.path.isfile(f"{it.rlib}/format") for it in crate.below()):
         raise Nothing("no gate has built the crates below here")
     words = crate.words(["--jobs", os.environ.get("RT_JOBS", "1")], keeps=False)
