@@ -1,14 +1,17 @@
 -- A unit's client hears a block.
-use Rattle.std.proofs.Common.{◌≡◌, ◌≢◌, ℕ, ◌<◌, inl, inr, Bool, true, false, ◌||◌, List, [], ◌∷◌, eqb, refl, sym, ap, ◌∙◌, subst, arith, Option, Some, None, slice_get}
+use Rattle.std.proofs.Common.{◌≡◌, ◌≢◌, ℕ, ◌<◌, inl, inr, Bool, true, false, ◌||◌, List, [], ◌∷◌, eqb, refl, sym, ap, ◌∙◌, subst, arith, Option, Some, None, Result, OnOk, slice_get}
 use Rattle.std.proofs.Math.ListN.{set}
 use Rattle.std.specs.Option.{option_flatten}
 use Rattle.std.proofs.lemmas.Bool.{cases_eq, eq-eqb, ne_eqb}
+use Rattle.std.proofs.lemmas.Option.{slice_get_within}
 use Rattle.unit_packets.specs.Blocks.{Block}
 use Rattle.pitch_model.specs.History.{Entry, Raw}
+use Rattle.pitch_model.specs.Honest.{Honest}
+use Rattle.pitch_model.proofs.Results.{on_ok_map}
 use Rattle.heard_items.specs.Heard.{heard_block}
 use Rattle.heard_items.specs.Units.{unit_history}
-use Rattle.heard_items.proofs.Units.{history_same, history_other}
-use Rattle.client_core.specs.Tracks.{Tracks}
+use Rattle.heard_items.proofs.Units.{history_same, history_other, all_honest_before}
+use Rattle.client_core.specs.Tracks.{Tracks, Keeps}
 use Rattle.client_core.specs.declared.client.UnitClient.{UnitClient}
 use Rattle.unit_clients.specs.Clients.{Units, is_named, IsClient, TracksAt, IsSlotAsBefore, Clients, KeepsTo, AllKeep, HaveHeard, client_of}
 use Rattle.unit_clients.specs.Tables.{with_place}
@@ -108,3 +111,30 @@ low_more n block before here low unit named = elim (cases_eq unit block.unit) [
   | inl same ↦ omega arith
   | inr apart ↦ low unit (sym (ap (λ (b : Bool). b || is_named before unit) (ne_eqb unit block.unit apart)) ∙ named)
 ]
+
+-- a client that heard a block keeps to the venue's messages where the place did in which it stands
+pub keeps_there : {A F : Type 0} (r : Result A F) (block : Block) (client client' : UnitClient) (place : Option UnitClient) → place ≡ Some client
+    → OnOk r ((Image : List Raw → ℕ → List Raw) (V : List Raw) (E : List Entry) → Honest Image V (heard_block block E) → Keeps client V → Keeps client' V)
+    → OnOk r ((Image : List Raw → ℕ → List Raw) (V : List Raw) (E : List Entry) → Honest Image V (heard_block block E) → KeepsTo V place → Keeps client' V)
+keeps_there r block client client' place is keeps =
+    on_ok_map
+    ((Image : List Raw → ℕ → List Raw) (V : List Raw) (E : List Entry) → Honest Image V (heard_block block E) → Keeps client V → Keeps client' V)
+    ((Image : List Raw → ℕ → List Raw) (V : List Raw) (E : List Entry) → Honest Image V (heard_block block E) → KeepsTo V place → Keeps client' V)
+    r keeps (λ heard Image V E honest kept. heard Image V E honest (subst (KeepsTo V) is kept))
+
+-- the client at the block's unit heard it, in whatever place of the table it stands
+pub table_hears : (table : Units) (block : Block) (was slot : Option UnitClient) → slice_get table.places block.unit ≡ Some was
+    → ((before : List Block) (unit : ℕ) → IsClient table.limit before unit was → TracksAt table.limit (heard_block block (unit_history unit before)) slot)
+    → ((Image : List Raw → ℕ → List Raw) (V : List Raw) (E : List Entry) → Honest Image V (heard_block block E) → KeepsTo V was → KeepsTo V slot)
+    → (before : List Block) → HaveHeard table before → HaveHeard (with_place table block.unit slot) (block ∷ before)
+table_hears table block was slot there tracks keeps before heard =
+    let within = slice_get_within table.places block.unit was there in
+    let many = heard.clients.many in
+    record {
+      clients = clients_hear table.limit table.places slot block before heard.clients (tracks before block.unit (heard.clients.each block.unit was there));
+      named = low_more 256 block before (omega arith) heard.named;
+      keep = λ Image Vs honest.
+          let kept = heard.keep Image Vs (all_honest_before Image Vs block before honest) in
+          let here : Honest Image (Vs block.unit) (heard_block block (unit_history block.unit before)) = subst (Honest Image (Vs block.unit)) (history_same block before) (honest block.unit) in
+          clients_keep Vs block.unit table.places slot kept (keeps Image (Vs block.unit) (unit_history block.unit before) here (kept.each block.unit was there));
+    }

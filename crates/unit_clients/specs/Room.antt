@@ -1,5 +1,5 @@
 -- Memory that was taken ahead.
-use Rattle.std.specs.Prelude.{◌≡◌, ◌⊎◌, ℕ, ◌+◌, ◌≤◌, List, [], length, IfSome}
+use Rattle.std.specs.Prelude.{◌≡◌, ◌⊎◌, ℕ, ◌+◌, ◌≤◌, [], length, IfSome}
 use Rattle.std.specs.Option.{IsSomeAnd}
 use Rattle.unit_packets.specs.Blocks.{Block}
 use Rattle.client_core.specs.Client.{held_number, spare_of, KeepsRoom}

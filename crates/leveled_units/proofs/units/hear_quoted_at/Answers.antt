@@ -4,8 +4,7 @@ use Rattle.pitch_model.specs.Honest.{Honest}
 use Rattle.client_core.specs.Tracks.{Keeps}
 use Rattle.unit_packets.specs.Blocks.{Block}
 use Rattle.unit_clients.specs.Clients.{IsClient, KeepsTo}
-use Rattle.unit_clients.proofs.Hearing.{new_client}
-use Rattle.pitch_model.proofs.Results.{on_ok_map}
+use Rattle.unit_clients.proofs.Hearing.{new_client, keeps_there}
 use Rattle.heard_items.specs.Units.{unit_history}
 use Rattle.heard_items.specs.Heard.{heard_block}
 use Rattle.leveled_units.specs.Hearing.{TellsAnew}
@@ -16,11 +15,7 @@ use Rattle.leveled_units.proofs.units.hear_quoted_at.Goals as goal
 
 pub returns-in-Some-clause-keeps : goal.returns-in-Some-clause-keeps
 returns-in-Some-clause-keeps c =
-    on_ok_map
-    ((Image : List Raw → ℕ → List Raw) (V : List Raw) (E : List Entry) → Honest Image V (heard_block c.args.block.now E) → Keeps c.in-Some.unit V → Keeps c.hear_quoted.new.self V)
-    ((Image : List Raw → ℕ → List Raw) (V : List Raw) (E : List Entry) → Honest Image V (heard_block c.args.block.now E) → KeepsTo V c.args.slot.now → Keeps c.hear_quoted.new.self V)
-    c.hear_quoted.result c.hear_quoted.ensures.keeps
-    (λ keeps Image V E honest kept. keeps Image V E honest (subst (KeepsTo V) c.in-Some.is kept))
+    keeps_there c.hear_quoted.result c.args.block.now c.in-Some.unit c.hear_quoted.new.self c.args.slot.now c.in-Some.is c.hear_quoted.ensures.keeps
 
 pub returns-in-Ok-clause-tracks : goal.returns-in-Ok-clause-tracks
 returns-in-Ok-clause-tracks c = rw c.replace.ensures.after (λ before unit stands.

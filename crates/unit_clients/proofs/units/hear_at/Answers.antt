@@ -1,21 +1,10 @@
-use Rattle.std.proofs.Common.{ℕ, List, subst}
-use Rattle.pitch_model.specs.History.{Raw, Entry}
-use Rattle.pitch_model.specs.Honest.{Honest}
-use Rattle.client_core.specs.Tracks.{Keeps}
-use Rattle.unit_clients.specs.Clients.{KeepsTo}
-use Rattle.unit_clients.proofs.Hearing.{new_client}
-use Rattle.pitch_model.proofs.Results.{on_ok_map}
+use Rattle.unit_clients.proofs.Hearing.{new_client, keeps_there}
 use Rattle.heard_items.specs.Units.{unit_history}
-use Rattle.heard_items.specs.Heard.{heard_block}
 use Rattle.unit_clients.proofs.units.hear_at.Goals as goal
 
 pub returns-in-Some-clause-keeps : goal.returns-in-Some-clause-keeps
 returns-in-Some-clause-keeps c =
-    on_ok_map
-    ((Image : List Raw → ℕ → List Raw) (V : List Raw) (E : List Entry) → Honest Image V (heard_block c.args.block.now E) → Keeps c.in-Some.client V → Keeps c.hear.new.client V)
-    ((Image : List Raw → ℕ → List Raw) (V : List Raw) (E : List Entry) → Honest Image V (heard_block c.args.block.now E) → KeepsTo V c.args.slot.now → Keeps c.hear.new.client V)
-    c.hear.result c.hear.ensures.keeps
-    (λ keeps Image V E honest kept. keeps Image V E honest (subst (KeepsTo V) c.in-Some.is kept))
+    keeps_there c.hear.result c.args.block.now c.in-Some.client c.hear.new.client c.args.slot.now c.in-Some.is c.hear.ensures.keeps
 
 pub returns-in-Ok-clause-tracks : goal.returns-in-Ok-clause-tracks
 returns-in-Ok-clause-tracks c = rw c.replace.ensures.after (λ before unit stands.
