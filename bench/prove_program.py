@@ -17,8 +17,9 @@ each crate that has ended. The status is 0 where all is proved and built, 1 wher
 where rt stopped before any proof, and 3 where the gate of this kit is another than this was written
 for, or does not work in this folder.
 """
-import inspect, os, signal, sys, time, traceback
+import inspect, os, re, signal, sys, time, traceback
 from concurrent.futures import FIRST_COMPLETED, ThreadPoolExecutor, wait
+from pathlib import Path
 
 sys.dont_write_bytecode = True
 from the_kit import crates_of, the_kit
@@ -45,13 +46,17 @@ def gate_of(rt):
     return name
 
 
-def chains(tasks):
-    """How long the longest chain is that begins with each task. A line costs the more, the more
-    crates stand below it."""
+def functions_of(crate):
+    return sum(len(re.findall(rb'\bfn \w', it.read_bytes())) for it in Path(crate.folder, 'src').rglob('*.rt'))
+
+
+def chains(tasks, functions):
+    """How long the longest chain is that begins with each task. A function costs the more, the more
+    crates stand below its own."""
     behind = dict.fromkeys(tasks, 0)
     # Each stands after those that it waits for.
-    for key, (waits, lines, _, _) in reversed([*tasks.items()]):
-        behind[key] += lines * (1 + len(waits) / 10)
+    for key, (waits, _, _, _) in reversed([*tasks.items()]):
+        behind[key] += functions[key[0]] * (10 + len(waits))
         for below in waits:
             behind[below] = max(behind[below], behind[key])
     return behind
@@ -80,10 +85,10 @@ class Progress:
             print('pitch: no other crate is begun; what runs is ended, and kept', flush=True)
 
 
-def in_order(tasks, lanes, memory):
+def in_order(tasks, functions, lanes, memory):
     """Runs the proofs, and then what else the gate wants to be told, and returns what each gave. Once
     a crate is not proved, no other is begun: those that run are ended, and so kept."""
-    behind, running, given = chains(tasks), {}, {}
+    behind, running, given = chains(tasks, functions), {}, {}
     left = sorted((it for it in tasks if it[1] == 'proof'), key=lambda it: -behind[it])
     progress = Progress(len(left), lanes)
     with ThreadPoolExecutor(lanes) as pool:
@@ -111,12 +116,13 @@ def in_order(tasks, lanes, memory):
     return given
 
 
-def narrow(rt):
+def narrow(rt, every):
     """Has the gate of the kit prove, and do nothing else, in the order of this file."""
+    functions = {it.name: functions_of(it) for it in every}
     lanes = int(os.environ.get('RT_JOBS') or rt.processors())
     rt.edits_of = lambda crate: ([], [])
     rt.Crate.has_tests = lambda crate: False
-    rt.in_lanes = lambda tasks: in_order(tasks, lanes, 0.85 * rt.free())
+    rt.in_lanes = lambda tasks: in_order(tasks, functions, lanes, 0.85 * rt.free())
     rt.run = lambda crate, tests, ending: True
 
 
@@ -190,7 +196,7 @@ def main():
         proof_of = PROOFS[gate_of(rt)]
         every = crates_of(rt, top)
         named = next(it for it in every if it.name == sys.argv[1])
-        narrow(rt)
+        narrow(rt, every)
         prove = proof_of(rt, every, named)
     except SystemExit:
         return 3
