@@ -1,6 +1,7 @@
 //! Gates: work that meets other work there, and a wait that gives up.
 
-use pitch_io::{FreeGate, Gate, MeetGate, Role, Work};
+use memory_devices::MeetGate;
+use pitch_io::{FreeGate, Gate, Role, Work};
 use std::process::Abort;
 use std::thread::join;
 

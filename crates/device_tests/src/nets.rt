@@ -1,6 +1,7 @@
 //! The net in memory: it carries in order, and fails at the calls that are listed.
 
-use pitch_io::{Line, LinkEnd, MemoryNet, Net, NetCall, NetDone, NetTaken, NetVerb, Put};
+use memory_devices::{MemoryNet, NetCall, NetVerb};
+use pitch_io::{Line, LinkEnd, Net, NetDone, NetTaken, Put};
 use std::process::Abort;
 
 // Makes calls on line A and from the spin client's end to the server's. Answers what each said:

@@ -1,9 +1,7 @@
 //! Sources and sinks, in memory and over std: small pieces, little room, failing calls.
 
-use pitch_io::{
-    MemorySink, MemorySource, Put, Sink, Source, StdSink, StdSource, SteadySink, SteadySource,
-    Taken,
-};
+use memory_devices::{MemorySink, MemorySource, SteadySink, SteadySource};
+use pitch_io::{Put, Sink, Source, StdSink, StdSource, Taken};
 use std::io::{Error, ErrorKind, Read};
 use std::process::Abort;
 

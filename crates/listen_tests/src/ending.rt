@@ -3,8 +3,8 @@
 
 use live_net::{LiveStep, MemoryLive};
 use live_recovery::{Account, Counts, RecoverError, RecoverSetup, recover};
+use memory_devices::MemorySink;
 use pitch_fields::HoldLimit;
-use pitch_io::MemorySink;
 use std::collections::VecDeque;
 use std::process::Abort;
 use std::rt::HostRuntime;

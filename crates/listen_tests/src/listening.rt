@@ -2,8 +2,8 @@
 
 use live_listen::{Counts, ListenError, ListenSetup, listen};
 use live_net::{LineStep, MemoryLines};
+use memory_devices::MemorySink;
 use pitch_fields::HoldLimit;
-use pitch_io::MemorySink;
 use std::collections::VecDeque;
 use std::process::Abort;
 use std::rt::HostRuntime;

@@ -4,8 +4,8 @@ use live_net::{LiveStep, MemoryLive};
 use live_recovery::{
     Account, Counts, Disagreement, Peer, RecoverError, RecoverSetup, Session, recover,
 };
+use memory_devices::MemorySink;
 use pitch_fields::HoldLimit;
-use pitch_io::MemorySink;
 use std::collections::VecDeque;
 use std::process::Abort;
 use std::rt::HostRuntime;

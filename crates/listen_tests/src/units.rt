@@ -1,8 +1,8 @@
 //! Two units of a live client: what comes to them, and what is printed of it.
 
 use live_units::{Account, LiveUnits, Session, Taken};
+use memory_devices::MemorySink;
 use pitch_fields::HoldLimit;
-use pitch_io::MemorySink;
 use std::process::Abort;
 use std::rt::HostRuntime;
 

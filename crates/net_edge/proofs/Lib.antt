@@ -23,6 +23,5 @@ mod Carried
 mod Sending
 mod Sharing
 mod Ending
-mod InMemory
 mod SharedEnds
 mod Examples

@@ -9,7 +9,6 @@
 
 mod end_set;
 mod error;
-mod in_memory;
 mod plain;
 mod putting;
 mod running;
@@ -20,6 +19,5 @@ mod turn;
 mod venue;
 
 pub use crate::error::DemoError;
-pub use crate::in_memory::carried_in_memory;
 pub use crate::running::{demo, demo_plain};
 pub use loopback_net::StdNet;

@@ -1,6 +1,3 @@
 -- What only the layers tell one another: no top call needs it.
-pub mod MemoryNets
 pub mod Coming
-pub mod Scripted
-pub mod Steady
 pub mod Taking

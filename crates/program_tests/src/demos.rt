@@ -4,8 +4,9 @@
 use crate::nets::{NoNet, Trouble, TroubledNet};
 use crate::runs::ends_so_over;
 use loopback_net::StdNet;
+use memory_devices::{MemoryNet, NetCall, NetVerb};
 use net_edge::demo_plain;
-use pitch_io::{FreeGate, MemoryNet, Net, NetCall, NetVerb};
+use pitch_io::{FreeGate, Net};
 use pitch_tool::ExitStatus;
 use std::alloc::Global;
 use std::net;

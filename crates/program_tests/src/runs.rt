@@ -7,7 +7,8 @@ ghost use Rattle.pitch_tool.specs.Program.{IsWhole, IsRefusal};
 ghost use Rattle.pitch_tool.specs.declared.failure.Trouble.{Trouble};
 
 use crate::nets::NoNet;
-use pitch_io::{FreeGate, Gate, Net, Sink, Source, SteadySink, SteadySource, Taken};
+use memory_devices::{SteadySink, SteadySource};
+use pitch_io::{FreeGate, Gate, Net, Sink, Source, Taken};
 use pitch_tool::{ExitStatus, pitch};
 use std::alloc::Global;
 use std::process::Abort;

@@ -2,7 +2,8 @@
 
 use crate::nets::NoNet;
 use crate::runs::{ends_so_over, run_over};
-use pitch_io::{FreeGate, Gate, MeetGate, Work};
+use memory_devices::MeetGate;
+use pitch_io::{FreeGate, Gate, Work};
 use pitch_tool::ExitStatus;
 use std::alloc::Global;
 use std::process::Abort;

@@ -2,7 +2,7 @@
 
 use crate::kept_net::{KeptNet, Said};
 use live_venue::{ReportError, ServeError, ServeSetup, serve, serve_and_report};
-use pitch_io::MemorySink;
+use memory_devices::MemorySink;
 use std::collections::VecDeque;
 use std::process::Abort;
 use venue_end::{Account, VenueSetup};

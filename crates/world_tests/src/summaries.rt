@@ -1,6 +1,7 @@
 //! Storms as they end: summaries, the worlds behind them, and two units side by side.
 
-use pitch_io::{FreeGate, MeetGate};
+use memory_devices::MeetGate;
+use pitch_io::FreeGate;
 use pitch_model::Status;
 use schedule_replay::WorldList;
 use std::process::Abort;

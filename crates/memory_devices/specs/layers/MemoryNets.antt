@@ -13,13 +13,13 @@ use Rattle.pitch_io.specs.declared.net.NetDone.{NetDone}
 use Rattle.pitch_io.specs.declared.net.NetDone.TheVariants as done
 use Rattle.pitch_io.specs.declared.net.NetTaken.{NetTaken}
 use Rattle.pitch_io.specs.declared.net.NetTaken.TheVariants as taken
-use Rattle.pitch_io.specs.declared.memory_net.NetVerb.{NetVerb}
-use Rattle.pitch_io.specs.declared.memory_net.NetVerb.TheVariants as verb
-use Rattle.pitch_io.specs.declared.memory_net.NetCall.{NetCall}
-use Rattle.pitch_io.specs.declared.memory_net.VerbCounts.{VerbCounts}
-use Rattle.pitch_io.specs.declared.call_log.KeptCall.{KeptCall}
-use Rattle.pitch_io.specs.declared.call_log.KeptCall.TheVariants as kept
-use Rattle.pitch_io.specs.declared.call_log.CallLog.{CallLog}
+use Rattle.memory_devices.specs.declared.memory_net.NetVerb.{NetVerb}
+use Rattle.memory_devices.specs.declared.memory_net.NetVerb.TheVariants as verb
+use Rattle.memory_devices.specs.declared.memory_net.NetCall.{NetCall}
+use Rattle.memory_devices.specs.declared.memory_net.VerbCounts.{VerbCounts}
+use Rattle.memory_devices.specs.declared.call_log.KeptCall.{KeptCall}
+use Rattle.memory_devices.specs.declared.call_log.KeptCall.TheVariants as kept
+use Rattle.memory_devices.specs.declared.call_log.CallLog.{CallLog}
 use Rattle.std.specs.List.{AllByRecursion}
 use Rattle.pitch_io.specs.Nets.{Call, other_end}
 use Rattle.pitch_io.specs.layers.Coming.{Coming}

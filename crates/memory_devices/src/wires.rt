@@ -1,14 +1,12 @@
 //! What is on its way in a net in memory: datagrams by line, and bytes by end.
 
 ghost use Rattle.std.specs.Prelude.{◌≡◌, ◌<◌, ◌++◌, [], length, take, drop, min, true};
-ghost use Rattle.pitch_io.specs.layers.MemoryNets.{AreFull, ComesFirst, as_carried, datagram_items};
-ghost use Rattle.pitch_io.specs.layers.MemoryNets.{end_changed, line_changed, nothing_coming};
-ghost use Rattle.pitch_io.specs.layers.MemoryNets.{on_line};
-ghost use Rattle.pitch_io.specs.layers.MemoryNets.{to_end};
+ghost use Rattle.memory_devices.specs.layers.MemoryNets.{AreFull, ComesFirst, as_carried};
+ghost use Rattle.memory_devices.specs.layers.MemoryNets.{datagram_items, end_changed, line_changed};
+ghost use Rattle.memory_devices.specs.layers.MemoryNets.{nothing_coming, on_line, to_end};
 ghost use Rattle.pitch_io.specs.Nets.{other_end};
 
-use crate::line::Line;
-use crate::net::LinkEnd;
+use pitch_io::{Line, LinkEnd};
 use std::alloc::Global;
 use std::collections::VecDeque;
 use std::marker::Model;
@@ -27,7 +25,7 @@ pub struct Wires {
 }
 
 impl Model for Wires {
-    ghost use Rattle.pitch_io.specs.layers.MemoryNets.{AreFull, OnItsWay, datagram_items};
+    ghost use Rattle.memory_devices.specs.layers.MemoryNets.{AreFull, OnItsWay, datagram_items};
 
     ghost Value = { OnItsWay };
 

@@ -1,9 +1,9 @@
 use Rattle.std.proofs.Common.{◌≡◌, ◌↔◌, true, subst, ap}
 use Rattle.std.specs.Prelude.{Bool, Contains, ℕ, List}
-use Rattle.pitch_io.specs.declared.memory_net.NetCall.{NetCall}
-use Rattle.pitch_io.specs.declared.memory_net.NetVerb.{NetVerb}
-use Rattle.pitch_io.specs.layers.MemoryNets.{Carried}
-use Rattle.pitch_io.proofs.memory_net.MemoryNet.is_listed.Goals as goal
+use Rattle.memory_devices.specs.declared.memory_net.NetCall.{NetCall}
+use Rattle.memory_devices.specs.declared.memory_net.NetVerb.{NetVerb}
+use Rattle.memory_devices.specs.layers.MemoryNets.{Carried}
+use Rattle.memory_devices.proofs.memory_net.MemoryNet.is_listed.Goals as goal
 
 -- the answer says whether a call of this number is one of these
 abbrev Says : Bool → NetVerb → List NetCall → ℕ → Type 0

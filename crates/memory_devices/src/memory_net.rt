@@ -2,25 +2,23 @@
 
 ghost use Rattle.std.specs.Prelude.{◌≡◌, ◌↔◌, ◌<◌, [], Some, None, true, length, drop, take, ◌++◌};
 ghost use Rattle.std.specs.Prelude.{Contains};
-ghost use Rattle.pitch_io.specs.declared.memory_net.NetVerb.TheVariants as verb;
+ghost use Rattle.memory_devices.specs.declared.memory_net.NetVerb.TheVariants as verb;
 ghost use Rattle.pitch_io.specs.Causes.{HasCause};
 ghost use Rattle.pitch_io.specs.Putting.{PutFailed, PutsWithin};
 ghost use Rattle.pitch_io.specs.Nets.{Begin, NetDoneFailed, NetTakeFailed, Next, Put as PutCall};
 ghost use Rattle.pitch_io.specs.Nets.{Send, Take, other_end};
 ghost use Rattle.pitch_io.specs.layers.Coming.{AnswersWhereListed, CameWithin, ListsCall, came};
-ghost use Rattle.pitch_io.specs.layers.MemoryNets.{CarriesAll, ComesFirst, FollowsScript, IsListed};
-ghost use Rattle.pitch_io.specs.layers.MemoryNets.{IsRest, IsSameButFaults, LeavesDone, LeavesPut};
-ghost use Rattle.pitch_io.specs.layers.MemoryNets.{LeavesTaken, as_carried, end_changed};
-ghost use Rattle.pitch_io.specs.layers.MemoryNets.{line_changed};
-ghost use Rattle.pitch_io.specs.layers.MemoryNets.{size_of, taken_of, coming_items, call_counted};
-ghost use Rattle.pitch_io.specs.layers.MemoryNets.{listed_calls, nothing_coming, on_line, one_more};
-ghost use Rattle.pitch_io.specs.layers.MemoryNets.{times_called, to_end};
+ghost use Rattle.memory_devices.specs.layers.MemoryNets.{CarriesAll, ComesFirst, FollowsScript};
+ghost use Rattle.memory_devices.specs.layers.MemoryNets.{IsListed, IsRest, IsSameButFaults};
+ghost use Rattle.memory_devices.specs.layers.MemoryNets.{LeavesDone, LeavesPut, LeavesTaken};
+ghost use Rattle.memory_devices.specs.layers.MemoryNets.{as_carried, call_counted, coming_items};
+ghost use Rattle.memory_devices.specs.layers.MemoryNets.{end_changed, line_changed, listed_calls};
+ghost use Rattle.memory_devices.specs.layers.MemoryNets.{nothing_coming, on_line, one_more};
+ghost use Rattle.memory_devices.specs.layers.MemoryNets.{size_of, taken_of, times_called, to_end};
 
 use crate::call_log::CallLog;
-use crate::line::Line;
-use crate::net::{LinkEnd, Net, NetDone, NetTaken};
-use crate::sink::Put;
 use crate::wires::Wires;
+use pitch_io::{Line, LinkEnd, Net, NetDone, NetTaken, Put};
 use std::alloc::Global;
 use std::marker::Model;
 
@@ -90,7 +88,7 @@ pub struct MemoryNet {
 }
 
 impl Model for MemoryNet {
-    ghost use Rattle.pitch_io.specs.layers.MemoryNets.{Carried, CarriesAll, listed_calls};
+    ghost use Rattle.memory_devices.specs.layers.MemoryNets.{Carried, CarriesAll, listed_calls};
 
     ghost Value = { Carried };
 

@@ -2,11 +2,9 @@
 
 ghost use Rattle.std.specs.Prelude.{◌≡◌, [], false, None, Some};
 ghost use Rattle.pitch_io.specs.Nets.{Begin, Send, Next, Put as PutCall, Take};
-ghost use Rattle.pitch_io.specs.layers.MemoryNets.{LogsCall, call_of, listed_calls};
+ghost use Rattle.memory_devices.specs.layers.MemoryNets.{LogsCall, call_of, listed_calls};
 
-use crate::line::Line;
-use crate::net::{LinkEnd, NetDone, NetTaken};
-use crate::sink::Put;
+use pitch_io::{Line, LinkEnd, NetDone, NetTaken, Put};
 use std::alloc::Global;
 
 // A call as it is kept.

@@ -1,8 +1,8 @@
 use Rattle.std.proofs.Common.{List, Option, subst}
 use Rattle.pitch_io.specs.Nets.{Call}
-use Rattle.pitch_io.specs.layers.MemoryNets.{CarriesAll, CameInOrder}
-use Rattle.net_edge.proofs.InMemory.{run_carried}
-use Rattle.net_edge.proofs.in_memory.carried_in_memory.Goals as goal
+use Rattle.memory_devices.specs.layers.MemoryNets.{CarriesAll, CameInOrder}
+use Rattle.demo_laws.proofs.InMemory.{run_carried}
+use Rattle.demo_laws.proofs.carried_in_memory.Goals as goal
 
 pub returns : goal.returns
 returns c = λ s before after text text' demo are.

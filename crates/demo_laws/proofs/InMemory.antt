@@ -14,8 +14,8 @@ use Rattle.pitch_io.specs.declared.net.NetTaken.{NetTaken}
 use Rattle.pitch_io.specs.declared.net.NetTaken.TheVariants.{Got, Quiet, End, Failed}
 use Rattle.pitch_io.specs.declared.sink.Put.TheVariants as puts
 use Rattle.pitch_io.specs.Nets.{Call, Begin, Send, Next, Put, Take, other_end}
-use Rattle.pitch_io.specs.layers.MemoryNets.{OnItsWay, CameInOrder, FirstCame, as_carried}
-use Rattle.pitch_io.specs.layers.MemoryNets.{nothing_coming, way_after}
+use Rattle.memory_devices.specs.layers.MemoryNets.{OnItsWay, CameInOrder, FirstCame, as_carried}
+use Rattle.memory_devices.specs.layers.MemoryNets.{nothing_coming, way_after}
 use Rattle.unit_packets.specs.Packing.{datagram_size}
 use Rattle.net_edge.specs.Acting.{scene_after, scene_of}
 use Rattle.net_edge.specs.Demo.{AreShort, IsCarried}

@@ -6,7 +6,7 @@ use Rattle.pitch_io.specs.declared.net.NetDone.TheVariants.{Done}
 use Rattle.pitch_io.specs.declared.net.NetTaken.TheVariants.{Got}
 use Rattle.pitch_io.specs.declared.sink.Put.TheVariants.{Wrote}
 use Rattle.pitch_io.specs.Nets.{Call, Begin, Send, Next, Put, Take}
-use Rattle.pitch_io.specs.layers.MemoryNets.{CameInOrder, nothing_coming, way_after}
+use Rattle.memory_devices.specs.layers.MemoryNets.{CameInOrder, nothing_coming, way_after}
 
 -- what was sent before `begin` is gone, a datagram without bytes is not carried, one of three bytes
 -- is cut where there is room for two, and of a piece of three bytes two came
