@@ -3,7 +3,8 @@
 
 ghost use Rattle.std.specs.Prelude.{◌≤◌, ◌+◌, [], ◌∷◌, length, codes, decimal};
 ghost use Rattle.feed_lines.specs.layers.Puts.{Puts};
-ghost use Rattle.feed_lines.specs.Show.{number_field, price_field, hex_field, side_text, text_field};
+ghost use Rattle.feed_lines.specs.Show.{number_field, price_field, hex_field, side_text};
+ghost use Rattle.feed_lines.specs.Show.{text_field};
 ghost use Rattle.feed_lines.specs.Show.{symbol_text, word};
 
 use pitch_fields::{Price, Side, put_byte, put_hex, put_name, put_number, put_price, put_text};

@@ -41,7 +41,8 @@ pub fn append_unit_line(
     shares: u64,
     out: &mut Vec<u8>,
 ) -> Result<(), OutOfMemory>
-    ensures ok { OnOk result (out.new.items ≡ out.old.items ++ unit_line unit status orders shares) }
+    ensures ok { OnOk result (out.new.items
+        ≡ out.old.items ++ unit_line unit status orders shares) }
     ensures err { OnErr result (out.new.items ≡ out.old.items) }
 {
     let mut line = [0u8; LINE];

@@ -34,7 +34,11 @@ impl Model for GapStore {
 
     ghost Value = { Store };
 
-    ghost view = { λ s. record { items = s.ring.items; room = s.ring.capacity; pushed = s.pushed } };
+    ghost view = { λ s. record {
+      items = s.ring.items;
+      room = s.ring.capacity;
+      pushed = s.pushed;
+    } };
 
     ghost invariant = { λ s. (length s.ring.items ≡ min s.pushed s.ring.capacity)
         × (1 ≤ s.ring.capacity) × (s.pushed ≤ last_sequence) };
@@ -48,7 +52,8 @@ fn copy_out(
     out: &mut RawList,
 ) -> Result<(), OutOfMemory>
     requires { at + count ≤ length ring.now.items }
-    ensures ok { IfOk result (λ _. out.new.items ≡ out.old.items ++ take count (drop at ring.now.items)) }
+    ensures ok { IfOk result (λ _. out.new.items
+        ≡ out.old.items ++ take count (drop at ring.now.items)) }
     ensures err { OnErr result (out.new.items ≡ out.old.items) }
 {
     let before = out.len();

@@ -60,7 +60,8 @@ impl Model for Hold {
 impl Hold {
     /// A hold for at most `limit` messages, with the floor 0 and nothing held.
     pub fn make(alloc: Global, limit: HoldLimit) -> Result<Hold, OutOfMemory>
-        ensures { IfOk result (λ hold. hold ≡ record { floor = 0; limit = limit; held = map.empty }) }
+        ensures { IfOk result (λ hold. hold
+            ≡ record { floor = 0; limit = limit; held = map.empty }) }
     {
         Ok(Hold {
             floor: 0,

@@ -33,7 +33,10 @@ impl Model for Statuses {
 
     ghost coded = { symbols_code };
 
-    ghost view = { λ s. record { statuses = from_entries s.by_symbol.entries; spare = spare s.by_symbol } };
+    ghost view = { λ s. record {
+      statuses = from_entries s.by_symbol.entries;
+      spare = spare s.by_symbol;
+    } };
 
     ghost invariant = { λ s. IsDistinct bytes_eq (keys_of s.by_symbol.entries) };
 }

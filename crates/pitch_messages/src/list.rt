@@ -20,7 +20,10 @@ impl<T> Model for List<T> {
 
     ghost Value = { Roomy T };
 
-    ghost view = { λ l. record { items = l.items.items; spare = vec_capacity l.items - vec_len l.items } };
+    ghost view = { λ l. record {
+      items = l.items.items;
+      spare = vec_capacity l.items - vec_len l.items;
+    } };
 }
 
 impl<T: Drop> List<T> {

@@ -280,7 +280,8 @@ fn push_plain(
 
 // The required words of an add or a trade.
 fn push_order(line: &mut Vec<u8>, word: &[u8], order: &Order) -> Result<(), OutOfMemory>
-    ensures { OnOk result (line.new.items ≡ line.old.items ++ spaced (order_words word.now order.now)) }
+    ensures { OnOk result (line.new.items
+        ≡ line.old.items ++ spaced (order_words word.now order.now)) }
 {
     push_word(line, word)?;
     push_number(line, order.id)?;

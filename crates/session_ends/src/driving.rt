@@ -29,7 +29,8 @@ impl End {
             (reader_items reader.now)) }
         ensures logged { OnOk result (self.new.closed ≡ None → self.new.logged ≡ (self.old.logged
             || list_any (logs_in self.old.setup.role) (reader_items reader.now))) }
-        ensures rest { self.new ≡ record self.old { closed = self.new.closed; logged = self.new.logged } }
+        ensures rest { self.new
+            ≡ record self.old { closed = self.new.closed; logged = self.new.logged } }
         ensures answered { OnOk result (Drives A.answered self.old.setup self.old.logged
             (reader_items reader.now)
             (record { desk = desk.old; source = source.old; said = said.old.items })

@@ -213,7 +213,8 @@ impl End {
     /// `B` where the session is in use or a login was accepted, else `A`.
     #[tactic(auto, unfolding(crate::specs::Closing::login_status))]
     pub fn login_status(&self, sub: &[u8; 4], user: &[u8; 4], password: &[u8; 10]) -> u8
-        ensures { result ≡ login_status self.now.setup self.now.logged sub.now user.now password.now }
+        ensures { result
+            ≡ login_status self.now.setup self.now.logged sub.now user.now password.now }
     {
         if !knows_sub(&self.accounts, sub) {
             return b'S';
@@ -272,7 +273,8 @@ impl End {
             ≡ cause_of self.old.setup self.old.logged (Message place raw.now) }
         ensures logged { self.new.logged
             ≡ (self.old.logged || logs_in self.old.setup.role (Message place raw.now)) }
-        ensures rest { self.new ≡ record self.old { closed = self.new.closed; logged = self.new.logged } }
+        ensures rest { self.new
+            ≡ record self.old { closed = self.new.closed; logged = self.new.logged } }
     {
         let said = self.role.said(raw);
         self.closed = closed_by(self.cause(&said), place);
@@ -287,7 +289,8 @@ impl End {
         ensures closed { self.new.closed ≡ cause_of self.old.setup self.old.logged item.now }
         ensures logged { self.new.logged
             ≡ (self.old.logged || logs_in self.old.setup.role item.now) }
-        ensures rest { self.new ≡ record self.old { closed = self.new.closed; logged = self.new.logged } }
+        ensures rest { self.new
+            ≡ record self.old { closed = self.new.closed; logged = self.new.logged } }
     {
         match item {
             Heard::Message { place, raw } => self.judge_message(*place, raw),
@@ -303,7 +306,8 @@ impl End {
         ensures reader { IfOk result (λ reader. reader ≡ loaded self.old.inbox.reading piece.now) }
         ensures fed { self.new.inbox.fed ≡ counted (self.old.inbox.fed + length piece.now) }
         ensures heard { OnOk result (self.new.heard ≡ (self.old.heard || some_bytes piece.now)) }
-        ensures rest { self.new ≡ record self.old { inbox = self.new.inbox; heard = self.new.heard } }
+        ensures rest { self.new
+            ≡ record self.old { inbox = self.new.inbox; heard = self.new.heard } }
     {
         let reader = self.inbox.take(piece)?;
         self.heard = either(self.heard, any_bytes(piece));
@@ -331,7 +335,8 @@ impl End {
 
     /// Closes for want of memory, at the number of bytes that were fed.
     pub fn fail(&mut self)
-        ensures { self.new ≡ record self.old { closed = Some (closed_at Memory self.old.inbox.fed) } }
+        ensures { self.new
+            ≡ record self.old { closed = Some (closed_at Memory self.old.inbox.fed) } }
     {
         self.closed = Some(Closed {
             cause: CloseCause::Memory,
@@ -341,7 +346,8 @@ impl End {
 
     /// Appends the block of a session message. After OutOfMemory the bytes are as before.
     pub fn put(&self, message: &SessionMessage, out: &mut Vec<u8>) -> Result<(), OutOfMemory>
-        ensures ok { OnOk result (out.new.items ≡ out.old.items ++ sent_bytes self.now.setup message.now) }
+        ensures ok { OnOk result (out.new.items
+            ≡ out.old.items ++ sent_bytes self.now.setup message.now) }
         ensures err { OnErr result (out.new.items ≡ out.old.items) }
     {
         put_session(self.header_unit(), &write(message), out)

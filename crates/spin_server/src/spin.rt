@@ -25,7 +25,10 @@ impl Model for Spin {
 
     ghost Value = { Spin };
 
-    ghost view = { λ s. record { sequence = s.sequence; left = drop s.sent (bytes_in s.datagrams.items) } };
+    ghost view = { λ s. record {
+      sequence = s.sequence;
+      left = drop s.sent (bytes_in s.datagrams.items);
+    } };
 
     ghost invariant = { λ s. s.sent ≤ length s.datagrams.items };
 }

@@ -47,7 +47,8 @@ fn digits(bytes: &[u8], most: usize) -> Option<u128>
 #[inline]
 fn with_digit(value: u128, byte: u8) -> Option<u128>
     requires { value < 10 ^ 19 }
-    ensures { result ≡ (if is_ascii_digit byte then Some (value * 10 + digit_value byte) else None) }
+    ensures { result
+        ≡ (if is_ascii_digit byte then Some (value * 10 + digit_value byte) else None) }
 {
     if byte.is_ascii_digit() {
         Some(value * 10 + u128::from(byte - b'0'))

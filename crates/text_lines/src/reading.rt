@@ -63,7 +63,8 @@ pub fn read_count(fields: &mut LineFields, word: &[u8], low: u64) -> Result<Opti
 // The cause of a field that is neither a number nor the word: what begins with a digit is meant as
 // a number.
 fn cause_by_first(bytes: &[u8]) -> TextCause
-    ensures { result ≡ (if begins_with_digit bytes.now then TextCause.BadNumber else TextCause.BadWord) }
+    ensures { result
+        ≡ (if begins_with_digit bytes.now then TextCause.BadNumber else TextCause.BadWord) }
 {
     match bytes {
         [first, ..] if first.is_ascii_digit() => TextCause::BadNumber,

@@ -50,7 +50,8 @@ impl Model for Market {
 
     ghost view = { λ m. record { venue = m.venue; store = m.store; shelf = m.shelf } };
 
-    ghost invariant = { λ m. HasSome (record { venue = m.venue; store = m.store; shelf = m.shelf }) };
+    ghost invariant = { λ m. HasSome
+        (record { venue = m.venue; store = m.store; shelf = m.shelf }) };
 }
 
 impl Market {

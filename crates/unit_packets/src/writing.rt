@@ -43,7 +43,8 @@ pub fn heartbeat(unit: u8, next: u32) -> [u8; 8]
 
 /// Appends the unsequenced block of one session message. The bytes are as before after OutOfMemory.
 pub fn put_session(unit: u8, raw: &Raw, out: &mut Vec<u8>) -> Result<(), OutOfMemory>
-    ensures ok { OnOk result (out.new.items ≡ out.old.items ++ block_bytes (session_block unit raw.now)) }
+    ensures ok { OnOk result (out.new.items
+        ≡ out.old.items ++ block_bytes (session_block unit raw.now)) }
     ensures block { IsBlock (block_bytes (session_block unit raw.now))
         (session_block unit raw.now) }
     ensures err { OnErr result (out.new.items ≡ out.old.items) }

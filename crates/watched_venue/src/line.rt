@@ -1,6 +1,7 @@
 //! The line of a message that asks for something.
 
-ghost use Rattle.std.specs.Prelude.{◌≡◌, ◌≤◌, ◌+◌, ◌++◌, [], ◌∷◌, take, length, codes, IsErr, OnErr};
+ghost use Rattle.std.specs.Prelude.{◌≡◌, ◌≤◌, ◌+◌, ◌++◌, [], ◌∷◌, take, length, codes, IsErr};
+ghost use Rattle.std.specs.Prelude.{OnErr};
 ghost use Rattle.std.specs.Prelude.{OnOk};
 ghost use Rattle.pitch_io.specs.Putting.{Grows};
 ghost use Rattle.stream_print.specs.Sinks.{CountsFault, PutsPrefix};
