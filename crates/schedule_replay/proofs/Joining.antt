@@ -19,17 +19,18 @@ use Rattle.pitch_text.specs.ScheduleGrammar.{entry, schedule_entry}
 use Rattle.world_model.specs.Stands.{WorldStands}
 use Rattle.world_model.specs.declared.world.World.{World}
 use Rattle.schedule_replay.specs.layers.Merging.{own, first_piece}
-use Rattle.schedule_replay.specs.Replay.{verbs_of, limits_of, replay_line, replay_text, schedule_of}
+use Rattle.schedule_replay.specs.Replay.{verbs_of, limits_of, replay_line, replay_of, replay_on, replay_text, schedule_of}
 use Rattle.schedule_replay.specs.layers.Runs.{entries_among, without_fault, AreFilled, AreOf}
 use Rattle.schedule_replay.specs.layers.Runs.{ArePartsOf, part_entries, part_texts, cut_by, Ran}
 use Rattle.schedule_replay.specs.layers.Runs.{left_pieces, pieces_on, pieces_at, put_together}
 use Rattle.schedule_replay.specs.layers.Runs.{AreRunsAt, is_filled, has_world}
-use Rattle.schedule_replay.specs.layers.Stretches.{IsCut, Owned, StretchPart, items_at, items_in}
-use Rattle.schedule_replay.specs.layers.Stretches.{parts_of, stretches_of}
-use Rattle.schedule_replay.specs.layers.Places.{IsPlace, ArePlaces}
+use Rattle.schedule_replay.specs.layers.Stretches.{AreListed, IsCut, Owned, StretchPart, items_at, items_in}
+use Rattle.schedule_replay.specs.layers.Stretches.{list_at, parts_of, stretches_of}
+use Rattle.schedule_replay.specs.layers.Places.{AddsWorlds, IsPlace, ArePlaces, worlds_in}
 use Rattle.schedule_replay.specs.declared.merging.Unmerged.{Unmerged}
 use Rattle.schedule_replay.specs.declared.stretches.Stretch.{Stretch}
 use Rattle.schedule_replay.specs.declared.units.UnitRun.{UnitRun}
+use Rattle.schedule_replay.proofs.Places.{all_worlds_are}
 use Rattle.schedule_replay.proofs.Reading.{said_all}
 use Rattle.schedule_replay.proofs.Splitting.{own_same, own_other, verbs_own, lines_stand_apart}
 
@@ -323,6 +324,28 @@ runs_apart text order lists places lefts cut are filled =
       written = joins (Filled places) ps (pieces_at lefts) [] have all (λ unit it. (parts_at ps places lefts are unit it).1)
           ∙ ap (put_together (pieces_at lefts)) (units_same text cut.all ∙ cut.whose);
     }
+
+-- the units of a cut text were run from nothing, with its lists as they were lent
+pub ran_apart : (text order : List ℕ) (lists lent : List (Vec Stretch Global)) (fresh places : List (Option World)) (empty lefts : List Unmerged) → IsCut text order lists → lent ≡ lists → ArePlaces [] fresh → length empty ≡ 65
+    → ((all : List Owned) → AreListed all lent → AreRunsAt (parts_of text all) fresh empty → AreRunsAt (parts_of text all) places lefts) → AreFilled lent places → RunsApart text places order lefts
+ran_apart text order lists lent fresh places empty lefts cut same none many ran filled =
+    let listed : AreListed cut.all lent = λ unit. ap (λ (l : List (Vec Stretch Global)). list_at l unit) same ∙ cut.each unit in
+    runs_apart text order lists places lefts cut (ran cut.all listed (puts_none (parts_of text cut.all) fresh empty none many))
+    (subst (λ (l : List (Vec Stretch Global)). AreFilled l places) same filled)
+
+-- then what was put together is what the text's replay writes
+pub apart_written : (text order lent old new : List ℕ) (places : List (Option World)) (lefts : List Unmerged) → RunsApart text places order lefts → lent ≡ order → new ≡ old ++ put_together (pieces_at lefts) lent
+    → (written : List ℕ) × (replay_of text ≡ Ok written) × (new ≡ old ++ written)
+apart_written text order lent old new places lefts all same put = (
+  replay_text all.entries,
+  ap replay_on all.read,
+  put ∙ ap (λ (l : List ℕ). old ++ put_together (pieces_at lefts) l) same ∙ ap (λ (t : List ℕ). old ++ t) (sym all.written),
+)
+
+-- and the worlds in the places were run through the text
+pub apart_worlds : (text order : List ℕ) (places : List (Option World)) (lefts : List Unmerged) (old new : List World) → RunsApart text places order lefts → new ≡ old ++ worlds_in places → AddsWorlds text old new
+apart_worlds text order places lefts old new all put =
+    record { added = worlds_in places; appended = put; run = record { entries = all.entries; read = all.read; are = all_worlds_are places (reverse all.entries) all.are } }
 
 -- ---- At each stretch the next text
 

@@ -10,7 +10,7 @@ use Rattle.std.proofs.lemmas.Bool.{cond-true, cond-false, eq-eqb, ne_eqb, cases_
 use Rattle.std.proofs.lemmas.Bool.Decides.{nat_tests}
 use Rattle.std.proofs.lemmas.List.{get_or-set_same, get_or-set_other}
 use Rattle.std.proofs.lemmas.Map.Keys.{IsStrictlyIncreasing-from_sorted}
-use Rattle.std.proofs.lemmas.Option.{none-some, slice_get-get_or, slice_get_within, slice_get_past, get_or_from_slice_get}
+use Rattle.std.proofs.lemmas.Option.{none-some, same_Some, slice_get-get_or, slice_get_within, slice_get_past, get_or_from_slice_get}
 use Rattle.pitch_text.specs.declared.verb.ScheduleEntry.{ScheduleEntry}
 use Rattle.pitch_text.specs.declared.verb.Verb.{Verb}
 use Rattle.world_model.specs.Printed.{verb_text}
@@ -83,6 +83,13 @@ places_more places e before place within are is = record {
             other_place e before unit p other (are.each unit p (slice_get-get_or places unit p low ∙ ap Some kept))
       ];
 }
+
+-- where no world stands, none stands with an empty place more
+pub none_more : (places : List (Option World)) (unit : ℕ) (place : Option World) → ((u : ℕ) (p : Option World) → slice_get places u ≡ Some p → p ≡ None) → slice_get (places ++ None ∷ []) unit ≡ Some place → place ≡ None
+none_more [] zero place none at = sym (same_Some None place at)
+none_more [] (suc unit) place none at = absurd (none-some place at)
+none_more (p ∷ places) zero place none at = none 0 place at
+none_more (p ∷ places) (suc unit) place none at = none_more places unit place (λ u. none (suc u)) at
 
 -- no unit has a world at first
 pub places_none : (places : List (Option World)) → length places ≡ 65 → ((unit : ℕ) (place : Option World) → slice_get places unit ≡ Some place → place ≡ None) → ArePlaces [] places

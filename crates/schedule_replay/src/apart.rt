@@ -8,7 +8,7 @@ ghost use Rattle.schedule_replay.specs.layers.Stretches.{AreListed, Owned, parts
 ghost use Rattle.schedule_replay.specs.layers.Places.{AddsWorlds};
 
 use crate::merging::{Unmerged, are_filled, merge, no_lefts, put_pieces};
-use crate::running::{LAST_UNIT, PLACES, WorldList, all_worlds, no_worlds};
+use crate::running::{LAST_UNIT, PLACES, WorldList, append_worlds, no_worlds};
 use crate::stretches::{Cut, Stretch, cut_text};
 use crate::units::run_units;
 use crate::unrun::CantRunApart;
@@ -18,13 +18,20 @@ use std::alloc::Global;
 use std::thread::Threads;
 use world_model::World;
 
+// Whether a unit has a stretch.
+fn has_stretch(lists: &[Vec<Stretch>], unit: u8) -> bool {
+    match lists.get(usize::from(unit)) {
+        Some(list) => !list.is_empty(),
+        None => false,
+    }
+}
+
 // The units that have a stretch.
 fn units_of(alloc: Global, lists: &[Vec<Stretch>]) -> Result<Vec<u8>, OutOfMemory> {
     let mut units = Vec::with_capacity(alloc, PLACES)?;
     for unit in 1..=LAST_UNIT {
-        match lists.get(usize::from(unit)) {
-            Some(list) if !list.is_empty() => units.push(unit)?,
-            _ => {}
+        if has_stretch(lists, unit) {
+            units.push(unit)?;
         }
     }
     Ok(units)
@@ -92,7 +99,6 @@ pub(crate) fn replay_apart<R: Threads + Sync, G: Gate + Sync>(
     )?;
     drop(lists);
     merge(&order, &mut lefts, out)?;
-    let added = all_worlds(alloc, places)?;
-    worlds.append(added.into_vec())?;
+    append_worlds(alloc, places, worlds)?;
     Ok(())
 }

@@ -249,10 +249,7 @@ pub(crate) fn no_worlds(alloc: Global) -> Result<Vec<Option<World>>, OutOfMemory
 }
 
 // The worlds by rising unit.
-pub(crate) fn all_worlds(
-    alloc: Global,
-    places: Vec<Option<World>>,
-) -> Result<WorldList, OutOfMemory>
+fn all_worlds(alloc: Global, places: Vec<Option<World>>) -> Result<WorldList, OutOfMemory>
     ensures { IfOk result (λ worlds. worlds.items ≡ worlds_in places.items) }
 {
     let mut worlds = WorldList::make(alloc);
@@ -263,6 +260,20 @@ pub(crate) fn all_worlds(
         }
     }
     Ok(worlds)
+}
+
+// Puts the worlds of some places at the end of a list, by rising unit. The list is as before after
+// OutOfMemory.
+pub(crate) fn append_worlds(
+    alloc: Global,
+    places: Vec<Option<World>>,
+    worlds: &mut WorldList,
+) -> Result<(), OutOfMemory>
+    ensures ok { OnOk result (worlds.new.items ≡ worlds.old.items ++ worlds_in places.items) }
+    ensures err { OnErr result (worlds.new.items ≡ worlds.old.items) }
+{
+    let added = all_worlds(alloc, places)?;
+    worlds.append(added.into_vec())
 }
 
 // Replays the lines of a text one after another. After an error some text may have been appended.
@@ -285,7 +296,6 @@ pub(crate) fn replay_together<G: Gate>(
     let mut places = no_worlds(alloc)?;
     run_text(alloc, gate, &mut places, text, out)?;
     tell_ends(gate, &places);
-    let added = all_worlds(alloc, places)?;
-    worlds.append(added.into_vec())?;
+    append_worlds(alloc, places, worlds)?;
     Ok(())
 }

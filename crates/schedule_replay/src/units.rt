@@ -231,12 +231,12 @@ fn run_piece<G: Gate>(
 ) -> Result<Vec<UnitRun>, CantRunApart>
     ensures { IfOk result (λ runs. AreRun text.now lists.now runs.items) }
 {
-    let mut runs = Vec::new(alloc);
+    let mut runs = pitch_messages::List::make(alloc);
     'units: for unit in units {
         let run = run_unit(alloc, gate, text, lists, *unit)?;
         runs.push(run)?;
     }
-    Ok(runs)
+    Ok(runs.into_vec())
 }
 
 /// Runs units apart, in at most so many pieces of work, beside one another.
