@@ -84,20 +84,26 @@ impl World {
         ensures fresh { IfOk result (λ world. has_failed world ≡ false) }
     {
         let venue = VenueEnd::make(alloc, &venue_setup(unit, limits))?;
-        let client = client_end(alloc, unit, limits)?;
-        Ok(World {
-            alloc,
-            unit,
-            limits,
-            venue,
-            client,
-            sent: DatagramList::make(alloc),
-            replayed: DatagramList::make(alloc),
-            passed: Passed { a: 0, b: 0, gap: 0 },
-            arbiter: Arbiter::make(),
-            begun: false,
-            failed: false,
-        })
+        match client_end(alloc, unit, limits) {
+            Ok(client) => Ok(World {
+                alloc,
+                unit,
+                limits,
+                venue,
+                client,
+                sent: DatagramList::make(alloc),
+                replayed: DatagramList::make(alloc),
+                passed: Passed { a: 0, b: 0, gap: 0 },
+                arbiter: Arbiter::make(),
+                begun: false,
+                failed: false,
+            }),
+            Err(error) => {
+                // By a call: a function that drops a venue's end itself takes long to prove.
+                drop(venue);
+                Err(error)
+            }
+        }
     }
 
     /// Does a verb of a schedule, and answers what its line prints.
