@@ -187,8 +187,7 @@ fn take_word<J: Naming, R: DrillRun + FixedRun, W: Wait, G: Gate>(
     gate.before(work);
     hear_word(client, word)?;
     gate.after(work);
-    tick(rt, client, counts, asks)?;
-    Ok(())
+    tick(rt, client, counts, asks)
 }
 
 // The client hears a word of its service.
@@ -217,8 +216,7 @@ fn take_reply<J: Naming, R: DrillRun + FixedRun, W: Wait, G: Gate>(
     gate.before(work);
     hear_reply(client, reply)?;
     gate.after(work);
-    tick(rt, client, counts, asks)?;
-    Ok(())
+    tick(rt, client, counts, asks)
 }
 
 // The client hears what comes next. Says whether more may come.

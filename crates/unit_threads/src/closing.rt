@@ -53,6 +53,5 @@ pub(crate) fn close<J: Naming, R: DrillRun + FixedRun, H: Wait + Drop>(
         return Ok(());
     }
     let image = image_of_all(alloc, course, server)?;
-    take_image(client, course, image)?;
-    Ok(())
+    take_image(client, course, image)
 }

@@ -134,8 +134,7 @@ fn shared_last<J: Naming, R: DrillRun + FixedRun, H: Wait + Drop>(
         ≡ command_datagrams course.now.number course.now.unit index) }
 {
     let packed = packed_last(alloc, writer, course, index)?;
-    let shared = shared_copies(alloc, packed.as_slice())?;
-    Ok(shared)
+    shared_copies(alloc, packed.as_slice())
 }
 
 // Sends datagrams, which go on being shared.
@@ -169,8 +168,7 @@ fn send_on<R: DrillRun + FixedRun, W: Wait>(
     if lost(course.number, course.unit, index, line) {
         return Ok(());
     }
-    send_copies(rt, datagrams, words)?;
-    Ok(())
+    send_copies(rt, datagrams, words)
 }
 
 // Sends the message of command `index` on both lines, but for the copies that are lost.
@@ -190,8 +188,7 @@ fn send_last<J: Naming, R: DrillRun + FixedRun, H: Wait + Drop, W: Wait>(
 {
     let sent = shared_last(alloc, writer, course, index)?;
     send_on(rt, course, index, 1, sent.as_slice(), words)?;
-    send_on(rt, course, index, 2, sent.as_slice(), words)?;
-    Ok(())
+    send_on(rt, course, index, 2, sent.as_slice(), words)
 }
 
 // Whether it is time to advertise: after every 1,000th command, and after the last.
@@ -247,8 +244,7 @@ fn advertise<J: Naming, R: DrillRun + FixedRun, H: Wait + Drop, W: Wait>(
     }
     let reached = advertise_all(writer, course, index)?;
     to.words.send(rt, Word::Advertised(reached))?;
-    to.told.send(rt, Request::Told(writer.tell()))?;
-    Ok(())
+    to.told.send(rt, Request::Told(writer.tell()))
 }
 
 // Command `index` of the plan: it is accepted and sent, and advertised where it is time.
@@ -273,8 +269,7 @@ fn publish_one<J: Naming, R: DrillRun + FixedRun, H: Wait + Drop, W: Wait>(
 {
     accept(writer, course, index)?;
     send_last(rt, alloc, writer, course, index, &mut to.words)?;
-    advertise(rt, writer, course, index, to)?;
-    Ok(())
+    advertise(rt, writer, course, index, to)
 }
 
 // After each round: lets other threads run while many words wait for the client, as long as any of
@@ -319,8 +314,7 @@ fn publish_all<J: Naming, R: DrillRun + FixedRun, H: Wait + Drop, W: Wait, G: Ga
         gate.after(work);
         give_way(before + 1, course.count, &to.words, &mut yields);
     }
-    to.words.send(rt, Word::Last)?;
-    Ok(())
+    to.words.send(rt, Word::Last)
 }
 
 /// Publishes the commands of the course, and hands the writer back.

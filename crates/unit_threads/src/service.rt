@@ -141,14 +141,10 @@ fn answer_gap<J: Naming, R: DrillRun + FixedRun, W: Wait>(
         ++ replies_to_gap (kept_at J.kept server.new.history) course.now.unit first count) }
 {
     match range(alloc, course, server, first, count)? {
-        None => {
-            replies.send(rt, Reply::Gap { accepted: false })?;
-            Ok(())
-        }
+        None => replies.send(rt, Reply::Gap { accepted: false }),
         Some(datagrams) => {
             replies.send(rt, Reply::Gap { accepted: true })?;
-            send_again(rt, alloc, datagrams.as_slice(), replies)?;
-            Ok(())
+            send_again(rt, alloc, datagrams.as_slice(), replies)
         }
     }
 }
@@ -166,14 +162,8 @@ fn answer_spin<J: Naming, R: DrillRun + FixedRun, W: Wait>(
         (replies.new ≡ replies.old ++ replies_to_spin (served_at server.new.history) sequence) }
 {
     match image(alloc, course, server, sequence)? {
-        Some(image) => {
-            replies.send(rt, Reply::Spin(image))?;
-            Ok(())
-        }
-        None => {
-            replies.send(rt, Reply::NoSpin { sequence })?;
-            Ok(())
-        }
+        Some(image) => replies.send(rt, Reply::Spin(image)),
+        None => replies.send(rt, Reply::NoSpin { sequence }),
     }
 }
 
@@ -192,13 +182,9 @@ fn answer<J: Naming, R: DrillRun + FixedRun, W: Wait>(
 {
     match ask {
         Ask::Gap { first, count } => {
-            answer_gap(rt, alloc, course, server, first, count, replies)?;
-            Ok(())
+            answer_gap(rt, alloc, course, server, first, count, replies)
         }
-        Ask::Spin { sequence } => {
-            answer_spin(rt, alloc, course, server, sequence, replies)?;
-            Ok(())
-        }
+        Ask::Spin { sequence } => answer_spin(rt, alloc, course, server, sequence, replies),
     }
 }
 

@@ -36,10 +36,7 @@ fn append_line(
             out.extend_from_slice(text.as_slice())?;
             Ok(())
         }
-        _ => {
-            drill_plain(alloc, number, unit, count, out)?;
-            Ok(())
-        }
+        _ => drill_plain(alloc, number, unit, count, out),
     }
 }
 
