@@ -1,5 +1,6 @@
 pub mod Audits
 pub mod Carriers
+pub mod Closing
 pub mod Completing
 pub mod Demos
 pub mod Examples

@@ -2,3 +2,4 @@
 pub mod Failures
 pub mod Reading
 pub mod Doing
+pub mod Saying

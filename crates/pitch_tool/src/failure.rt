@@ -8,7 +8,7 @@ use schedule_replay::ReplayError;
 use stream_print::{PutFailed, StreamFailure, StreamTrouble};
 
 /// What is wrong with an input.
-#[derive(Clone, Copy, PartialEq, Eq)]
+#[derive(Clone, Copy)]
 pub enum Trouble {
     /// A stream of blocks has a fault, or more bytes than are read.
     Blocks(StreamTrouble),
@@ -25,7 +25,7 @@ pub enum Trouble {
 }
 
 /// Why the program ends before its whole text.
-#[derive(Clone, Copy, PartialEq, Eq)]
+#[derive(Clone, Copy)]
 pub enum Failure {
     /// The words are no form that the program has.
     Usage,

@@ -11,6 +11,7 @@ ghost use Rattle.pitch_tool.specs.Devices.{device, wires};
 ghost use Rattle.pitch_tool.specs.Jobs.{Judges, most_taken};
 ghost use Rattle.pitch_tool.specs.Program.{memory_text, trouble_text, IsNoForm, IsNoDemo, RunEnds};
 ghost use Rattle.pitch_tool.specs.Program.{Closes, HasCauses, StopsAtTrouble, IsWhole, IsRefusal};
+ghost use Rattle.pitch_tool.specs.layers.Saying.{SaysWhy};
 
 use crate::commands::do_job;
 use crate::failure::{Failure, Trouble};
@@ -99,6 +100,47 @@ fn trouble_line(alloc: Global, trouble: Trouble) -> Result<String, OutOfMemory>
     }
 }
 
+// Says why the program ends before its whole text, and answers the status for it.
+fn say_why<E: Sink>(alloc: Global, err: &mut E, failure: Failure) -> ExitStatus
+    ensures { SaysWhy failure result (device E.written E.faults err.old err.new) }
+{
+    match failure {
+        Failure::Usage => {
+            say(
+                err,
+                b"pitch: usage: follow | show | pack | replay | storm | drill | demo | relay | quotes | audit\n",
+            );
+            ExitStatus::Usage
+        }
+        Failure::BadInput(trouble) => match trouble_line(alloc, trouble) {
+            Ok(line) => {
+                say(err, line.as_bytes());
+                ExitStatus::BadInput
+            }
+            Err(_) => {
+                say_out_of_memory(err);
+                ExitStatus::OutOfMemory
+            }
+        },
+        Failure::Read => {
+            say(err, b"pitch: read fault\n");
+            ExitStatus::ReadFault
+        }
+        Failure::Write => {
+            say(err, b"pitch: write fault\n");
+            ExitStatus::WriteFault
+        }
+        Failure::Net => {
+            say(err, b"pitch: net fault\n");
+            ExitStatus::NetFault
+        }
+        Failure::OutOfMemory => {
+            say_out_of_memory(err);
+            ExitStatus::OutOfMemory
+        }
+    }
+}
+
 // Does what the words ask for, and says why it ends before its whole text.
 fn close<R: Threads + Wait + Clock + Sync, I: Source, O: Sink, E: Sink, N: Net, G: Gate + Sync>(
     rt: &R,
@@ -119,54 +161,21 @@ fn close<R: Threads + Wait + Clock + Sync, I: Source, O: Sink, E: Sink, N: Net, 
       net = wires N.calls N.faults net.old net.new;
     }) }
     ensures quiet { result ≡ ExitStatus.Done → E.written err.new ≡ E.written err.old }
+    ensures causes { HasCauses result (record {
+      input = device I.left I.faults input.old input.new;
+      out = device O.written O.faults out.old out.new;
+      err =
+          device E.written E.faults err.old err.new;
+      net = wires N.calls N.faults net.old net.new;
+    }) }
     ensures reads { (form : Form) → IsForm (map string_bytes words.now) form
         → TakesAtMost (most_taken form) (told I.left input.old input.new) }
     ensures stops { StopsAtTrouble (map string_bytes words.now) (told I.left input.old input.new) }
-    ensures read_cause { HasCause
-        (I.faults input.old) (I.faults input.new) (result ≡ ExitStatus.ReadFault) }
-    ensures write_cause { HasCause
-        (O.faults out.old) (O.faults out.new) (result ≡ ExitStatus.WriteFault) }
-    ensures net_cause { HasCause
-        (N.faults net.old) (N.faults net.new) (result ≡ ExitStatus.NetFault) }
-    ensures net_still { result ≢ ExitStatus.NetFault
-        → result ≢ ExitStatus.OutOfMemory → N.faults net.new ≡ N.faults net.old }
     ensures unused { IsNoDemo (map string_bytes words.now) → net.new ≡ net.old }
 {
     match run(rt, alloc, words, input, out, net, gate) {
         Ok(()) => ExitStatus::Done,
-        Err(Failure::Usage) => {
-            say(
-                err,
-                b"pitch: usage: follow | show | pack | replay | storm | drill | demo | relay | quotes | audit\n",
-            );
-            ExitStatus::Usage
-        }
-        Err(Failure::BadInput(trouble)) => match trouble_line(alloc, trouble) {
-            Ok(line) => {
-                say(err, line.as_bytes());
-                ExitStatus::BadInput
-            }
-            Err(_) => {
-                say_out_of_memory(err);
-                ExitStatus::OutOfMemory
-            }
-        },
-        Err(Failure::Read) => {
-            say(err, b"pitch: read fault\n");
-            ExitStatus::ReadFault
-        }
-        Err(Failure::Write) => {
-            say(err, b"pitch: write fault\n");
-            ExitStatus::WriteFault
-        }
-        Err(Failure::Net) => {
-            say(err, b"pitch: net fault\n");
-            ExitStatus::NetFault
-        }
-        Err(Failure::OutOfMemory) => {
-            say_out_of_memory(err);
-            ExitStatus::OutOfMemory
-        }
+        Err(failure) => say_why(alloc, err, failure),
     }
 }
 
