@@ -1,6 +1,6 @@
 pub mod Shapes
+pub mod Sent
 pub mod Telling
 pub mod Answering
 pub mod Filling
-pub mod EndShapes
 pub mod Examples

@@ -20,7 +20,7 @@ use denote.Triple.Walked.{Stays, stay_dropped, walk_of}
 use Rattle.std.specs.Prelude.{None}
 use Rattle.std.proofs.alloc.Calls.{Goes-blank, handle_tells}
 use Rattle.std.proofs.raw_atomic.Walks.{proved_at, leaves}
-use Rattle.pitch_c.proofs.EndShapes.{both, Z, al, good, handle_in}
+use Rattle.pitch_c.proofs.Shapes.{both, Z, al, good, two_in}
 use Rattle.pitch_c.specs.contracts.end_handle.EndHandle.closed as f
 use Rattle.pitch_c.proofs.end_handle.EndHandle.closed.Statement.{statement}
 use Rattle.pitch_c.proofs.end_handle.EndHandle.closed.Code as code
@@ -39,7 +39,7 @@ closed_spec 𝓤 𝓛 𝓜 𝓡 wired =
     suffices ! (Run (h ∷ [])) (subst (λ (us : List Val). ent 𝓤 (Run (h ∷ [])) (Run us)) (sym (λ i. ws i ++ [])) (id⊢ 𝓤 (Run (h ∷ [])))) $
     enter ! 𝓣.C 𝓣.Λ code.function (h ∷ []) (W.post z) $ alloc_all ! (λ l. pass_all ! refl (fits, tt) $
     sets ! (agg ! (and_then ! (lit ! tt) (and_then ! (get ! refl) (no_more !)))) refl typed $
-    nothing ! $ handle_in ! null_ptr h v None $
+    nothing ! $ two_in ! null_ptr h v ftrue $
     use0 𝓛 (raw (fact 𝓤 (None ≡ None))) (fact_i 𝓤 (None ≡ None) (emp 𝓤) refl) $ nothing ! $ nothing ! $ fjoin ! $
     returns ! (look_at ! 0 refl) $ free_all ! refl $ keep ! (4 ∷ 0 ∷ 2 ∷ 1 ∷ []) $
     by ! (leaves 𝓛 f.ended stayed c z (both (vint w64 0) h) (record { at = null_ptr; alloc = v; value = None }) (tt, tt) (tt, tt)))))
