@@ -1,12 +1,8 @@
 -- What a venue answers, command by command.
-use Rattle.std.proofs.Common.{◌≡◌, ◌⊎◌, inl, inr, ℕ, suc, ◌+◌, ◌≤◌, arith, List, [], ◌∷◌, ◌++◌, refl, sym, ap, ◌∙◌, Option, Some, None, Result, Ok, Err, slice_get, get_or, take, drop, length, ◌<◌, append_assoc}
-use Rattle.std.specs.List.{concat}
+use Rattle.std.proofs.Common.{◌≡◌, ◌⊎◌, inl, inr, ℕ, suc, ◌+◌, ◌≤◌, arith, List, [], ◌∷◌, ◌++◌, refl, sym, ap, ◌∙◌, Option, Some, None, Result, Ok, Err, get_or, drop, length, ◌<◌}
 use Rattle.std.proofs.Math.Seq.{drop-cons}
 use Rattle.std.specs.Result.{result_err}
-use Rattle.std.proofs.lemmas.List.{take_more, append-nil, drop_all, length-append}
-use Rattle.pitch_messages.specs.Room.{Roomy}
-use Rattle.unit_packets.specs.Packing.{bytes_in}
-use Rattle.std.proofs.lemmas.Option.{get_or_from_slice_get, slice_get_within}
+use Rattle.std.proofs.lemmas.List.{drop_all, length-append}
 use Rattle.pitch_text.specs.CommandGrammar.{command, command_entry}
 use Rattle.text_lines.specs.Text.{TextFault, entries_of, all_of, with_front}
 use Rattle.text_lines.specs.Items.{items_of}

@@ -359,7 +359,8 @@ fn end(
     requires played { HasPlayed market.old course.number course.unit course.count course.count }
     requires heard { Follows client.old drill_kept (plan course.number course.unit course.count)
         (plain_history course.number course.unit course.count course.count) }
-    ensures { OnOk result (IsAtEnd client.new drill_kept (plan course.number course.unit course.count)) }
+    ensures { OnOk result
+        (IsAtEnd client.new drill_kept (plan course.number course.unit course.count)) }
 {
     plan_is_in_order();
     if !asks_when_told_of_all(client, course.count) {

@@ -7,7 +7,7 @@ use Rattle.std.proofs.lemmas.Option.{same_Some}
 use Rattle.unit_packets.specs.Blocks.{Block}
 use Rattle.unit_packets.specs.Cutting.{blocks_of}
 use Rattle.pitch_model.specs.Asking.{ask_of}
-use Rattle.pitch_model.specs.History.{Entry, GrpDown, SpinDown, Raw}
+use Rattle.pitch_model.specs.History.{Entry, SpinDown}
 use Rattle.pitch_model.specs.History as entry
 use Rattle.pitch_model.specs.declared.ask.Ask.{Ask}
 use Rattle.pitch_model.specs.declared.ask.Ask.TheVariants as asks

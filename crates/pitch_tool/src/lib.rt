@@ -10,9 +10,11 @@ mod commands;
 mod failure;
 mod program;
 mod reading;
+mod saying;
 mod status;
 mod stream;
 mod text;
 
-pub use crate::program::{pitch, say_out_of_memory};
+pub use crate::program::pitch;
+pub use crate::saying::say_out_of_memory;
 pub use crate::status::ExitStatus;

@@ -1,29 +1,26 @@
 //! The whole program: it reads the words, does their job, and says on `err` what failed.
 
-ghost use Rattle.std.specs.Prelude.{◌≡◌, ◌≢◌, ◌⊎◌, List, ℕ, IfOk, Some, None, Err, map};
+ghost use Rattle.std.specs.Prelude.{◌≡◌, ◌≢◌, ◌⊎◌, List, ℕ, Some, None, Err, map};
 ghost use Rattle.std.specs.Prelude.{string_bytes};
 ghost use Rattle.pitch_io.specs.Causes.{HasCause, Rose};
-ghost use Rattle.pitch_io.specs.Putting.{Grows};
 ghost use Rattle.pitch_words.specs.Forms.{IsForm};
 ghost use Rattle.pitch_words.specs.declared.form.Form.{Form};
 ghost use Rattle.stream_print.specs.Told.{told, TakesAtMost};
 ghost use Rattle.pitch_tool.specs.Devices.{device, wires};
 ghost use Rattle.pitch_tool.specs.Jobs.{Judges, most_taken};
-ghost use Rattle.pitch_tool.specs.Program.{memory_text, trouble_text, IsNoForm, IsNoDemo, RunEnds};
-ghost use Rattle.pitch_tool.specs.Program.{Closes, HasCauses, StopsAtTrouble, IsWhole, IsRefusal};
-ghost use Rattle.pitch_tool.specs.layers.Saying.{SaysWhy};
+ghost use Rattle.pitch_tool.specs.Program.{Closes, HasCauses, IsNoDemo, IsNoForm, IsRefusal};
+ghost use Rattle.pitch_tool.specs.Program.{IsWhole, RunEnds, StopsAtTrouble};
 
 use crate::commands::do_job;
 use crate::failure::{Failure, Trouble};
+use crate::saying::say_why;
 use crate::status::ExitStatus;
-use pitch_fields::OutOfMemory;
 use pitch_io::{Gate, Net, Sink, Source};
 use pitch_words::read;
 use std::alloc::Global;
 use std::sync::Wait;
 use std::thread::Threads;
 use std::time::Clock;
-use stream_print::{StreamTrouble, put_all};
 
 // Does what the words ask for.
 fn run<R: Threads + Wait + Clock + Sync, I: Source, O: Sink, N: Net, G: Gate + Sync>(
@@ -55,92 +52,6 @@ fn run<R: Threads + Wait + Clock + Sync, I: Source, O: Sink, N: Net, G: Gate + S
     }
 }
 
-// Says why the program ends, unless the sink fails.
-fn say<E: Sink>(err: &mut E, text: &[u8])
-    ensures { Rose (E.faults err.old) (E.faults err.new)
-        ⊎ Grows (E.written err.old) (E.written err.new) text.now }
-{
-    let _said = put_all(err, text);
-}
-
-/// Says that memory ran out, unless the sink fails.
-pub fn say_out_of_memory<E: Sink>(err: &mut E)
-    ensures { Rose (E.faults err.old) (E.faults err.new)
-        ⊎ Grows (E.written err.old) (E.written err.new) memory_text }
-{
-    say(err, b"pitch: out of memory\n");
-}
-
-// What is said of an input with trouble.
-fn trouble_line(alloc: Global, trouble: Trouble) -> Result<String, OutOfMemory>
-    ensures { IfOk result (λ line. string_bytes line ≡ trouble_text trouble) }
-{
-    match trouble {
-        Trouble::Blocks(StreamTrouble::Faulty(fault)) => {
-            Ok(format!(in alloc; "pitch: bad input at {fault}\n")?)
-        }
-        Trouble::Blocks(StreamTrouble::BadCapture(fault)) => {
-            Ok(format!(in alloc; "pitch: bad input at {fault}\n")?)
-        }
-        Trouble::Blocks(StreamTrouble::TooLong) => Ok(String::from_str(
-            alloc,
-            "pitch: input is longer than 1073741824 bytes\n",
-        )?),
-        Trouble::LongText => Ok(String::from_str(
-            alloc,
-            "pitch: input is longer than 67108864 bytes\n",
-        )?),
-        Trouble::Commands(error) => Ok(format!(in alloc; "pitch: {error}\n")?),
-        Trouble::Schedule(error) => Ok(format!(in alloc; "pitch: {error}\n")?),
-        Trouble::SequencesSpent => Ok(String::from_str(
-            alloc,
-            "pitch: refused: sequences-spent\n",
-        )?),
-        Trouble::Audit(fault) => Ok(format!(in alloc; "pitch: bad input at {fault}\n")?),
-    }
-}
-
-// Says why the program ends before its whole text, and answers the status for it.
-fn say_why<E: Sink>(alloc: Global, err: &mut E, failure: Failure) -> ExitStatus
-    ensures { SaysWhy failure result (device E.written E.faults err.old err.new) }
-{
-    match failure {
-        Failure::Usage => {
-            say(
-                err,
-                b"pitch: usage: follow | show | pack | replay | storm | drill | demo | relay | quotes | audit\n",
-            );
-            ExitStatus::Usage
-        }
-        Failure::BadInput(trouble) => match trouble_line(alloc, trouble) {
-            Ok(line) => {
-                say(err, line.as_bytes());
-                ExitStatus::BadInput
-            }
-            Err(_) => {
-                say_out_of_memory(err);
-                ExitStatus::OutOfMemory
-            }
-        },
-        Failure::Read => {
-            say(err, b"pitch: read fault\n");
-            ExitStatus::ReadFault
-        }
-        Failure::Write => {
-            say(err, b"pitch: write fault\n");
-            ExitStatus::WriteFault
-        }
-        Failure::Net => {
-            say(err, b"pitch: net fault\n");
-            ExitStatus::NetFault
-        }
-        Failure::OutOfMemory => {
-            say_out_of_memory(err);
-            ExitStatus::OutOfMemory
-        }
-    }
-}
-
 // Does what the words ask for, and says why it ends before its whole text.
 fn close<R: Threads + Wait + Clock + Sync, I: Source, O: Sink, E: Sink, N: Net, G: Gate + Sync>(
     rt: &R,
@@ -153,19 +64,16 @@ fn close<R: Threads + Wait + Clock + Sync, I: Source, O: Sink, E: Sink, N: Net, 
     gate: &G,
 ) -> ExitStatus
     ensures ends { Closes (map string_bytes words.now) result (record {
-      input = device
-          I.left I.faults input.old input.new;
+      input = device I.left I.faults input.old input.new;
       out = device O.written O.faults out.old out.new;
-      err =
-          device E.written E.faults err.old err.new;
+      err = device E.written E.faults err.old err.new;
       net = wires N.calls N.faults net.old net.new;
     }) }
     ensures quiet { result ≡ ExitStatus.Done → E.written err.new ≡ E.written err.old }
     ensures causes { HasCauses result (record {
       input = device I.left I.faults input.old input.new;
       out = device O.written O.faults out.old out.new;
-      err =
-          device E.written E.faults err.old err.new;
+      err = device E.written E.faults err.old err.new;
       net = wires N.calls N.faults net.old net.new;
     }) }
     ensures reads { (form : Form) → IsForm (map string_bytes words.now) form
@@ -230,11 +138,9 @@ pub fn pitch<R: Threads + Wait + Clock + Sync, I: Source, O: Sink, E: Sink, N: N
 ) -> ExitStatus
     // What each status says of the words, of what was read and written, and of what was said.
     ensures ends { Closes (map string_bytes words.now) result (record {
-      input = device
-          I.left I.faults input.old input.new;
+      input = device I.left I.faults input.old input.new;
       out = device O.written O.faults out.old out.new;
-      err =
-          device E.written E.faults err.old err.new;
+      err = device E.written E.faults err.old err.new;
       net = wires N.calls N.faults net.old net.new;
     }) }
     // Where all was done, nothing is said.
@@ -244,8 +150,7 @@ pub fn pitch<R: Threads + Wait + Clock + Sync, I: Source, O: Sink, E: Sink, N: N
     ensures causes { HasCauses result (record {
       input = device I.left I.faults input.old input.new;
       out = device O.written O.faults out.old out.new;
-      err =
-          device E.written E.faults err.old err.new;
+      err = device E.written E.faults err.old err.new;
       net = wires N.calls N.faults net.old net.new;
     }) }
     // Whatever the status, the source gave no more than one byte past the limit of the form.

@@ -1,5 +1,5 @@
 -- Who has the right to add to the history.
-use Rattle.std.proofs.Common.{◌≡◌, ℕ, ◌+◌, ◌-◌, ◌<◌, ◌==◌, Bool, true, List, [], ◌∷◌, ◌++◌, length, slice_index, refl, ap, sym, subst, ◌∙◌, arith, length-append, MatchBool}
+use Rattle.std.proofs.Common.{◌≡◌, ℕ, ◌+◌, ◌-◌, ◌==◌, Bool, List, [], ◌∷◌, ◌++◌, length, slice_index, refl, ap, sym, subst, ◌∙◌, arith, length-append, MatchBool}
 use Rattle.std.proofs.Math.Seq.{get_or-append_seam}
 use mathlib.Core.List.{IsPrefix}
 use Rattle.logbook.specs.Pages.{Nib, may_write, may_make, inked, left_with}

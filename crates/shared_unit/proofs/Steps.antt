@@ -6,7 +6,7 @@ use Rattle.std.proofs.lemmas.List.Sums.{sum_by-append}
 use Rattle.std.proofs.lemmas.Bool.Decides.{nat_tests}
 use mathlib.Core.List.{IsPrefix}
 use prog.Atomic.{either}
-use Rattle.logbook.specs.Pages.{Cell, cell, keeps, gives, adds, Nib, no_nib, step, Away, Moves, Goes, cells_after}
+use Rattle.logbook.specs.Pages.{Cell, cell, keeps, gives, adds, Nib, no_nib, step, Away, Moves, Goes}
 use Rattle.pitch_model.specs.Advertising.{Operation}
 use Rattle.shared_unit.specs.layers.Histories.{IsLegal, then_done}
 use Rattle.shared_unit.specs.layers.Moments.{Moment, Opening, Doing, Publishing, Answering, done_at}

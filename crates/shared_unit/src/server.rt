@@ -49,7 +49,12 @@ impl<J: Naming, R: FixedRun> Model for Server<J, R> {
 
     ghost coded = { sight_code };
 
-    ghost view = { λ s. record { number = s.number; cut_off = s.cut_off; history = s.past; moments = s.eye } };
+    ghost view = { λ s. record {
+      number = s.number;
+      cut_off = s.cut_off;
+      history = s.past;
+      moments = s.eye;
+    } };
 }
 
 // An answer that began: all that its server has seen happen by then, and how many operations were

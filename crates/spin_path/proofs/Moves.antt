@@ -1,5 +1,5 @@
 -- What a caller needs besides the law.
-use Rattle.std.proofs.Common.{Bool, true, false, cond, nat_lt, ◌≡◌, ℕ, zero, suc, List, [], ◌∷◌, ◌++◌, length, map, replicate, refl, ap, ◌∙◌, arith, append_assoc, length-append}
+use Rattle.std.proofs.Common.{Bool, true, false, cond, nat_lt, ◌≡◌, ℕ, zero, suc, List, [], ◌∷◌, ◌++◌, length, replicate, refl, ap, ◌∙◌, arith, append_assoc, length-append}
 use Rattle.pitch_model.proofs.Growing.{message_more}
 use Rattle.pitch_fields.proofs.Lists.{all_follows}
 use Rattle.heard_items.specs.declared.item.Item.{Item}

@@ -43,7 +43,8 @@ fn push_line(text: &mut Vec<u8>, unit: u8, verb: Verb) -> Result<(), OutOfMemory
 // Appends the lines of some verbs of a unit.
 fn push_lines(text: &mut Vec<u8>, unit: u8, verbs: &[Verb]) -> Result<(), OutOfMemory>
     requires { AllByRecursion (IsWellFormed unit) verbs.now }
-    ensures { OnOk result (text.new.items ≡ text.old.items ++ lines_text (entries_for unit verbs.now)) }
+    ensures { OnOk result (text.new.items
+        ≡ text.old.items ++ lines_text (entries_for unit verbs.now)) }
 {
     'verbs: for verb in verbs {
         push_line(text, unit, *verb)?;

@@ -9,7 +9,7 @@ use Rattle.unit_packets.specs.Blocks.{Block}
 use Rattle.unit_packets.specs.BlockBytes.{block_bytes, heartbeat_block}
 use Rattle.unit_packets.specs.Cutting.{blocks_of}
 use Rattle.unit_packets.proofs.Written.{written_is}
-use Rattle.pitch_model.specs.History.{Entry, Raw}
+use Rattle.pitch_model.specs.History.{Raw}
 use Rattle.pitch_model.specs.History as entry
 use Rattle.pitch_model.specs.Image.{image}
 use Rattle.pitch_model.specs.Status.{top_of}

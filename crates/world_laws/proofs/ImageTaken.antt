@@ -16,7 +16,7 @@ use Rattle.heard_items.specs.Heard.{heard, heard_all}
 use Rattle.pitch_model.specs.declared.ask.Ask.TheVariants as asks
 use Rattle.pitch_model.specs.Advertising.{last_ten, newest_of, with_sequence}
 use Rattle.pitch_model.specs.Asking.{ask_of}
-use Rattle.pitch_model.specs.History.{Entry, Raw, Spinning, NoSpin, Asked as AskedFor, Running, adds, can_promise, spin_of, image_finished, spin_replied}
+use Rattle.pitch_model.specs.History.{Entry, Raw, Spinning, NoSpin, Asked as AskedFor, Running, adds, can_promise, spin_of, image_finished}
 use Rattle.pitch_model.specs.History as entry
 use Rattle.pitch_model.specs.Image.{image}
 use Rattle.pitch_model.specs.Reach.{reach}

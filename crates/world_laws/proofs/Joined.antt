@@ -23,7 +23,7 @@ use Rattle.session_ends.specs.Events.{Event, Fed, Ticked, Pumped, Told}
 use Rattle.grp_session.specs.Serving.{Source}
 use Rattle.spin_server.specs.Served.{Served}
 use Rattle.client_links.specs.Linking.{Lookups}
-use Rattle.client_end.specs.Came.{Came, EndSetup, EndState, GrpMade, GrpTook, GrpCut, ask_sent, both_links_tick, end_step}
+use Rattle.client_end.specs.Came.{EndSetup, EndState, GrpTook, ask_sent, both_links_tick, end_step}
 use Rattle.client_end.specs.Came as client
 use Rattle.client_end.specs.Links.{gap_link, spin_link}
 use Rattle.client_end.specs.Sessions.{fed_at, happened, settled_at}

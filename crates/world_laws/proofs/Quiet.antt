@@ -13,7 +13,7 @@ use Rattle.heard_items.specs.Heard.{heard, heard_block, heard_all}
 use Rattle.pitch_model.specs.declared.ask.Ask.{Ask}
 use Rattle.pitch_model.specs.declared.ask.Ask.TheVariants as asks
 use Rattle.pitch_model.specs.Asking.{is_grp_up, is_spin_up, advertised_of, ask_of, ask_with, spin_or_gap, gap_or_none, gap_ask, asks_spin, wants, is_idle, least_held, owes, asked_at}
-use Rattle.pitch_model.specs.History.{Entry, Raw, NoSpin, spin_of, spin_asked}
+use Rattle.pitch_model.specs.History.{Entry, NoSpin, spin_of, spin_asked}
 use Rattle.pitch_model.specs.History as entry
 use Rattle.pitch_model.specs.Reach.{reach}
 use Rattle.pitch_model.specs.Status.{top_of}

@@ -9,7 +9,7 @@ use Rattle.pitch_model.specs.declared.ask.Ask.TheVariants as asks
 use Rattle.pitch_model.specs.declared.status.Status.TheVariants.{Current, Behind}
 use Rattle.pitch_model.specs.Advertising.{last_ten, newest_of, with_sequence}
 use Rattle.pitch_model.specs.Asking.{ask_of, ask_with, spin_or_gap, gap_or_none, wants, is_grp_up, is_spin_up, is_idle, advertised_of}
-use Rattle.pitch_model.specs.History.{Entry, Raw, NoSpin, spin_of}
+use Rattle.pitch_model.specs.History.{Entry, NoSpin, spin_of}
 use Rattle.pitch_model.specs.History as entry
 use Rattle.pitch_model.specs.Honest.{Honest}
 use Rattle.pitch_model.specs.Image.{image}

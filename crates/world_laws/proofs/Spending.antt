@@ -17,7 +17,7 @@ use Rattle.gap_store.specs.Look.{View, look}
 use Rattle.gap_store.specs.declared.found.Found.{Found}
 use Rattle.gap_store.specs.declared.found.Found.TheVariants.{Kept, Ahead, NotKept}
 use Rattle.grp_session.specs.Asking.{gap_status, status_here, status_found, spent_after}
-use Rattle.grp_session.specs.Budget.{Spent, how_many, this_second, this_minute, limit_reached, next_second, spending}
+use Rattle.grp_session.specs.Budget.{Spent, how_many, this_second, this_minute, next_second, spending}
 use Rattle.grp_session.specs.Budget as budget
 use Rattle.grp_session.specs.Serving.{Source, grp_answer, said_answer, message_answer, request_answer}
 use Rattle.venue_end.specs.Came.{VenueState, answers_in, proxy_source}

@@ -55,7 +55,7 @@ use Rattle.world_model.specs.declared.world.World.{World}
 use Rattle.world_model.specs.layers.Hearing.{HearsBlocks, Listens, overflow_in}
 use Rattle.world_model.specs.layers.Steps.{Acts, Marks, Passes, WorldHas}
 use Rattle.world_model.proofs.Marks.{marked, marks_hears, marks_none, marks_then}
-use Rattle.world_model.proofs.Sounding.{does_sound, every_state_is_sound, line_out, still}
+use Rattle.world_model.proofs.Sounding.{does_sound, every_state_is_sound, line_out}
 
 abbrev pub calm_of : Outcome → Acted
 calm_of o = record { outcome = o; overflow = false }

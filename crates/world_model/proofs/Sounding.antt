@@ -17,7 +17,7 @@ use Rattle.unit_packets.specs.Cutting.{blocks_of}
 use Rattle.client_end.specs.Came as client
 use Rattle.client_end.specs.Came.{Came, EndSetup, Heard, end_step}
 use Rattle.sending_end.specs.Waiting.{ended, made, took}
-use Rattle.venue_end.specs.Came.{VenueCame, VenueState, Advertised, Beaten, Commanded, Flushed, ProxyCut, ProxyMade, ProxyPut, ProxyTook, SpinCut, SpinMade, SpinPumped, SpinPut, SpinTook, on_gap_line, on_lines, venue_after, venue_step}
+use Rattle.venue_end.specs.Came.{VenueCame, VenueState, Advertised, Beaten, Commanded, Flushed, SpinPumped, on_gap_line, on_lines, venue_after, venue_step}
 use Rattle.venue_end.specs.Came as venue
 use Rattle.venue_end.specs.Sessions.{session_of}
 use Rattle.venue_end.specs.declared.setup.VenueSetup.{VenueSetup}

@@ -17,7 +17,8 @@ pub(crate) fn append_copies(
     datagrams: &[ByteList],
     out: &mut DatagramList,
 ) -> Result<(), OutOfMemory>
-    ensures { OnOk result (bytes_in out.new.items ≡ bytes_in out.old.items ++ bytes_in datagrams.now) }
+    ensures { OnOk result (bytes_in out.new.items
+        ≡ bytes_in out.old.items ++ bytes_in datagrams.now) }
 {
     'lines: for datagram in datagrams {
         out.push(ByteList::of_bytes(alloc, datagram.bytes())?)?;

@@ -249,7 +249,8 @@ pub fn append_printed(
     printed: &Printed,
     out: &mut Vec<u8>,
 ) -> Result<(), OutOfMemory>
-    ensures ok { OnOk result (out.new.items ≡ out.old.items ++ printed_line line unit verb.now printed.now) }
+    ensures ok { OnOk result (out.new.items
+        ≡ out.old.items ++ printed_line line unit verb.now printed.now) }
     ensures err { OnErr result (out.new.items ≡ out.old.items) }
 {
     let mut place = [0u8; LINE];

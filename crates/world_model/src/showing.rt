@@ -108,7 +108,8 @@ fn append_book_orders(
     book: &UnitBook,
     out: &mut Vec<u8>,
 ) -> Result<(), OutOfMemory>
-    ensures ok { OnOk result (out.new.items ≡ out.old.items ++ book_orders unit reach book.now.book) }
+    ensures ok { OnOk result (out.new.items
+        ≡ out.old.items ++ book_orders unit reach book.now.book) }
     ensures behind { take (length out.old.items) out.new.items ≡ out.old.items }
 {
     let mut orders = OrderList::make(alloc);

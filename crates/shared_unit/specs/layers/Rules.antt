@@ -3,7 +3,6 @@ use Rattle.std.specs.Prelude.{ℕ, ◌≡◌, ◌+◌, ◌-◌, ◌==◌, ◌<�
 use Rattle.std.specs.Prelude.{length, slice_index, MatchBool}
 use mathlib.Core.List.{IsPrefix}
 use Rattle.logbook.specs.Pages.{Cell, cell, Step, View, Book, Named, Nib, may_write, may_make}
-use Rattle.pitch_model.specs.Advertising.{Operation}
 use Rattle.shared_unit.specs.layers.Histories.{IsLegal}
 use Rattle.shared_unit.specs.layers.Moments.{Moment, HappensAfter, history_in, rights_in}
 use Rattle.shared_unit.specs.layers.Moments.{published_in}

@@ -1,7 +1,6 @@
 use Rattle.std.proofs.Common.{◌≡◌, ℕ, List, true, subst}
-use Rattle.pitch_model.specs.History.{Raw, Entry}
+use Rattle.pitch_model.specs.History.{Raw}
 use Rattle.pitch_model.specs.Honest.{Honest}
-use Rattle.client_core.specs.Tracks.{Keeps}
 use Rattle.unit_packets.specs.Blocks.{Block}
 use Rattle.unit_clients.specs.Clients.{IsClient, KeepsTo}
 use Rattle.unit_clients.proofs.Hearing.{new_client, keeps_there}

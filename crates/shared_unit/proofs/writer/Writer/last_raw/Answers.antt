@@ -1,5 +1,5 @@
-use Rattle.std.proofs.Common.{List, subst}
-use Rattle.pitch_model.specs.Advertising.{Operation, accepted_by}
+use Rattle.std.proofs.Common.{subst}
+use Rattle.pitch_model.specs.Advertising.{accepted_by}
 use Rattle.venue_core.specs.Stands.{Stands}
 use Rattle.shared_unit.specs.layers.Moments.{Writing}
 use Rattle.shared_unit.proofs.writer.Writer.last_raw.Goals as goal
