@@ -9,10 +9,15 @@
 //! The definitions are in `specs/Words.antt`, and know nothing of `clap`; `specs/Apps.antt` says
 //! what `clap`'s builders make of such a program. Proved here, for each such program whose names
 //! are plain, is that `clap` takes exactly these words and finds exactly the options that they
-//! give. Words with `--` among them, which to `clap` ends the options, are left out.
+//! give. Words with `--` among them, which to `clap` ends the options, are left out. `matches_of`
+//! has `clap` find them.
 #![tactic(auto)]
 
 ghost use Rattle.long_options.specs.layers.Finding.{CallsTaken, TakesCalls};
+
+mod matching;
+
+pub use crate::matching::matches_of;
 
 /// Words that `clap` takes are a command with its options, which `clap` finds; and words that are a
 /// command with its options are taken.

@@ -326,25 +326,25 @@ runs_apart text order lists places lefts cut are filled =
     }
 
 -- the units of a cut text were run from nothing, with its lists as they were lent
-pub ran_apart : (text order : List ℕ) (lists lent : List (Vec Stretch Global)) (fresh places : List (Option World)) (empty lefts : List Unmerged) → IsCut text order lists → lent ≡ lists → ArePlaces [] fresh → length empty ≡ 65
+pub ran_apart : {text order : List ℕ} {lists lent : List (Vec Stretch Global)} {fresh places : List (Option World)} {empty lefts : List Unmerged} → IsCut text order lists → lent ≡ lists → ArePlaces [] fresh → length empty ≡ 65
     → ((all : List Owned) → AreListed all lent → AreRunsAt (parts_of text all) fresh empty → AreRunsAt (parts_of text all) places lefts) → AreFilled lent places → RunsApart text places order lefts
-ran_apart text order lists lent fresh places empty lefts cut same none many ran filled =
+ran_apart {text} {order} {lists} {lent} {fresh} {places} {empty} {lefts} cut same none many ran filled =
     let listed : AreListed cut.all lent = λ unit. ap (λ (l : List (Vec Stretch Global)). list_at l unit) same ∙ cut.each unit in
     runs_apart text order lists places lefts cut (ran cut.all listed (puts_none (parts_of text cut.all) fresh empty none many))
     (subst (λ (l : List (Vec Stretch Global)). AreFilled l places) same filled)
 
 -- then what was put together is what the text's replay writes
-pub apart_written : (text order lent old new : List ℕ) (places : List (Option World)) (lefts : List Unmerged) → RunsApart text places order lefts → lent ≡ order → new ≡ old ++ put_together (pieces_at lefts) lent
+pub apart_written : {text order lent : List ℕ} {places : List (Option World)} {lefts : List Unmerged} (old new : List ℕ) → RunsApart text places order lefts → lent ≡ order → new ≡ old ++ put_together (pieces_at lefts) lent
     → (written : List ℕ) × (replay_of text ≡ Ok written) × (new ≡ old ++ written)
-apart_written text order lent old new places lefts all same put = (
+apart_written {text} {order} {lent} {places} {lefts} old new all same put = (
   replay_text all.entries,
   ap replay_on all.read,
   put ∙ ap (λ (l : List ℕ). old ++ put_together (pieces_at lefts) l) same ∙ ap (λ (t : List ℕ). old ++ t) (sym all.written),
 )
 
 -- and the worlds in the places were run through the text
-pub apart_worlds : (text order : List ℕ) (places : List (Option World)) (lefts : List Unmerged) (old new : List World) → RunsApart text places order lefts → new ≡ old ++ worlds_in places → AddsWorlds text old new
-apart_worlds text order places lefts old new all put =
+pub apart_worlds : {text order : List ℕ} {places : List (Option World)} {lefts : List Unmerged} (old new : List World) → RunsApart text places order lefts → new ≡ old ++ worlds_in places → AddsWorlds text old new
+apart_worlds {text} {order} {places} {lefts} old new all put =
     record { added = worlds_in places; appended = put; run = record { entries = all.entries; read = all.read; are = all_worlds_are places (reverse all.entries) all.are } }
 
 -- ---- At each stretch the next text

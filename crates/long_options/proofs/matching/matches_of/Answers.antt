@@ -1,7 +1,7 @@
 use Rattle.std.proofs.lemmas.Bool.{and_parts}
 use Rattle.clap.specs.Simple.{app_of, built, is_simple}
 use Rattle.clap.specs.Faults.{is_free_app}
-use Rattle.live_words.proofs.parse.matches_of.Goals as goal
+use Rattle.long_options.proofs.matching.matches_of.Goals as goal
 
 pub returns-in-Ok : goal.returns-in-Ok
 returns-in-Ok c =
