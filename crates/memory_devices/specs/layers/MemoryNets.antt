@@ -68,79 +68,16 @@ to_end way link.SpinServer = way.spin_server
 
 -- this line's datagrams changed, and nothing else
 abbrev pub line_changed : OnItsWay → Line → (List (List ℕ) → List (List ℕ)) → OnItsWay
-line_changed w line.A f =
-    record {
-      a = f w.a;
-      b = w.b;
-      gap = w.gap;
-      grp_client = w.grp_client;
-      grp_server = w.grp_server;
-      spin_client = w.spin_client;
-      spin_server = w.spin_server;
-    }
-line_changed w line.B f =
-    record {
-      a = w.a;
-      b = f w.b;
-      gap = w.gap;
-      grp_client = w.grp_client;
-      grp_server = w.grp_server;
-      spin_client = w.spin_client;
-      spin_server = w.spin_server;
-    }
-line_changed w line.Gap f =
-    record {
-      a = w.a;
-      b = w.b;
-      gap = f w.gap;
-      grp_client = w.grp_client;
-      grp_server = w.grp_server;
-      spin_client = w.spin_client;
-      spin_server = w.spin_server;
-    }
+line_changed w line.A f = record w { a = f w.a }
+line_changed w line.B f = record w { b = f w.b }
+line_changed w line.Gap f = record w { gap = f w.gap }
 
 -- the bytes to this end changed, and nothing else
 abbrev pub end_changed : OnItsWay → LinkEnd → (List ℕ → List ℕ) → OnItsWay
-end_changed w link.GrpClient f =
-    record {
-      a = w.a;
-      b = w.b;
-      gap = w.gap;
-      grp_client = f w.grp_client;
-      grp_server = w.grp_server;
-      spin_client = w.spin_client;
-      spin_server = w.spin_server;
-    }
-end_changed w link.GrpServer f =
-    record {
-      a = w.a;
-      b = w.b;
-      gap = w.gap;
-      grp_client = w.grp_client;
-      grp_server = f w.grp_server;
-      spin_client = w.spin_client;
-      spin_server = w.spin_server;
-    }
-end_changed w link.SpinClient f =
-    record {
-      a = w.a;
-      b = w.b;
-      gap = w.gap;
-      grp_client = w.grp_client;
-      grp_server = w.grp_server;
-      spin_client = f w.spin_client;
-      spin_server = w.spin_server;
-    }
-end_changed w link.SpinServer f =
-    record {
-      a = w.a;
-      b = w.b;
-      gap = w.gap;
-      grp_client = w.grp_client;
-      grp_server = w.grp_server;
-      spin_client = w.spin_client;
-      spin_server = f w.spin_server;
-    }
+end_changed w link.GrpClient f = record w { grp_client = f w.grp_client }
+end_changed w link.GrpServer f = record w { grp_server = f w.grp_server }
+end_changed w link.SpinClient f = record w { spin_client = f w.spin_client }
+end_changed w link.SpinServer f = record w { spin_server = f w.spin_server }
 
 -- a datagram as a line carries it: one without bytes is not carried
 abbrev pub as_carried : List ℕ → List (List ℕ)
@@ -167,46 +104,11 @@ one_more count = min (count + 1) (2 ^ 64 - 1)
 
 -- one call more of a verb
 abbrev pub call_counted : VerbCounts → NetVerb → VerbCounts
-call_counted c verb.Begin =
-    record {
-      begins = one_more c.begins;
-      sends = c.sends;
-      nexts = c.nexts;
-      puts = c.puts;
-      takes = c.takes;
-    }
-call_counted c verb.Send =
-    record {
-      begins = c.begins;
-      sends = one_more c.sends;
-      nexts = c.nexts;
-      puts = c.puts;
-      takes = c.takes;
-    }
-call_counted c verb.Next =
-    record {
-      begins = c.begins;
-      sends = c.sends;
-      nexts = one_more c.nexts;
-      puts = c.puts;
-      takes = c.takes;
-    }
-call_counted c verb.Put =
-    record {
-      begins = c.begins;
-      sends = c.sends;
-      nexts = c.nexts;
-      puts = one_more c.puts;
-      takes = c.takes;
-    }
-call_counted c verb.Take =
-    record {
-      begins = c.begins;
-      sends = c.sends;
-      nexts = c.nexts;
-      puts = c.puts;
-      takes = one_more c.takes;
-    }
+call_counted c verb.Begin = record c { begins = one_more c.begins }
+call_counted c verb.Send = record c { sends = one_more c.sends }
+call_counted c verb.Next = record c { nexts = one_more c.nexts }
+call_counted c verb.Put = record c { puts = one_more c.puts }
+call_counted c verb.Take = record c { takes = one_more c.takes }
 
 -- the last call of a verb is listed as one that fails
 abbrev pub IsListed : List NetCall → VerbCounts → NetVerb → Type 0
