@@ -1,11 +1,10 @@
 //! Runs of a client that asks nobody, over two lines, which end once each unit that is named has
 //! ended.
 
-use live_net::{LiveStep, MemoryLive};
 use live_recovery::{Account, Counts, RecoverError, RecoverSetup, recover};
 use memory_devices::MemorySink;
 use pitch_fields::HoldLimit;
-use std::collections::VecDeque;
+use scripted_nets::{NetStep, ScriptedLive};
 use std::process::Abort;
 use std::rt::HostRuntime;
 
@@ -27,28 +26,8 @@ const END_3: &[u8] = b"\x0e\0\x01\x07\x03\0\0\0\x06\x2d\0\0\0\0";
 
 const END_OF_2: &[u8] = b"\x0e\0\x01\x02\x01\0\0\0\x06\x2d\0\0\0\0";
 
-// What happens next: a wait ends, or a datagram comes on one of the lines.
-#[derive(Clone, Copy)]
-enum Step {
-    Turn,
-    Comes(u16, &'static [u8]),
-}
-
 fn copy<R: Abort + AllocGlobal>(rt: &R, bytes: &[u8]) -> Vec<u8> {
     Vec::from_slice(rt.alloc(), bytes).expect(rt, "memory")
-}
-
-// The script of a net.
-fn script_of<R: Abort + AllocGlobal>(rt: &R, steps: &[Step]) -> VecDeque<LiveStep> {
-    let mut script = VecDeque::new(rt.alloc());
-    for step in steps.iter() {
-        let next = match *step {
-            Step::Turn => LiveStep::Turn,
-            Step::Comes(line, bytes) => LiveStep::Comes(line, copy(rt, bytes)),
-        };
-        script.push_back(next).expect(rt, "memory");
-    }
-    script
 }
 
 // What a run came to.
@@ -60,12 +39,13 @@ struct Came {
 }
 
 // A run where these units are named.
-fn run<R: Abort + AllocGlobal>(rt: &R, units: &[u8], steps: &[Step]) -> Came {
+fn run<R: Abort + AllocGlobal>(rt: &R, units: &[u8], steps: &[NetStep]) -> Came {
     let limit = HoldLimit::of(16).expect(rt, "a limit");
     let setup = RecoverSetup::make(2, Vec::new(rt.alloc()), copy(rt, units), NOBODY, limit).expect(
         rt, "a setup",
     );
-    let mut net = MemoryLive::make(rt.alloc(), script_of(rt, steps), Vec::new(rt.alloc()));
+    let failing = Vec::new(rt.alloc());
+    let mut net = ScriptedLive::make(rt.alloc(), steps, failing).expect(rt, "memory");
     let mut out = MemorySink::make(rt.alloc(), 1024, Vec::new(rt.alloc()));
     let answer = recover(rt.alloc(), &setup, &mut net, &mut out);
     Came {
@@ -86,13 +66,13 @@ fn counts_of(datagrams: u64) -> Counts {
 }
 
 // The last turn comes too late.
-const ENDS: [Step; 6] = [
-    Step::Turn,
-    Step::Comes(0, TIME_1),
-    Step::Comes(0, END_2),
-    Step::Comes(1, END_2),
-    Step::Turn,
-    Step::Comes(1, END_OF_2),
+const ENDS: [NetStep; 6] = [
+    NetStep::Turn,
+    NetStep::Comes(0, TIME_1),
+    NetStep::Comes(0, END_2),
+    NetStep::Comes(1, END_2),
+    NetStep::Turn,
+    NetStep::Comes(1, END_OF_2),
 ];
 
 const ENDED: &[u8] = b"block 1 unit 7 first 1 count 1; current 1\n\
@@ -124,14 +104,14 @@ fn a_run_ends_once_each_named_unit_has(rt: HostRuntime) {
 }
 
 // The End of Session comes before the message that it follows.
-const BEHIND: [Step; 7] = [
-    Step::Turn,
-    Step::Comes(0, TIME_1),
-    Step::Comes(0, END_3),
-    Step::Turn,
-    Step::Comes(1, TIME_2),
-    Step::Turn,
-    Step::Comes(1, TIME_2),
+const BEHIND: [NetStep; 7] = [
+    NetStep::Turn,
+    NetStep::Comes(0, TIME_1),
+    NetStep::Comes(0, END_3),
+    NetStep::Turn,
+    NetStep::Comes(1, TIME_2),
+    NetStep::Turn,
+    NetStep::Comes(1, TIME_2),
 ];
 
 const CAUGHT_UP: &[u8] = b"block 1 unit 7 first 1 count 1; current 1\n\

@@ -1,10 +1,9 @@
-//! Runs of a listener over two lines.
+//! Runs of a listener over lines A and B, with the numbers 0 and 1.
 
 use live_listen::{Counts, ListenError, ListenSetup, listen};
-use live_net::{LineStep, MemoryLines};
 use memory_devices::MemorySink;
 use pitch_fields::HoldLimit;
-use std::collections::VecDeque;
+use scripted_nets::{NetStep, ScriptedLive};
 use std::process::Abort;
 use std::rt::HostRuntime;
 
@@ -24,41 +23,12 @@ const FIRST: &[u8] = b"block 1 unit 1 first 1 count 1; current 1\n";
 const FIRST_TWO: &[u8] = b"block 1 unit 1 first 1 count 1; current 1\n\
     block 2 unit 1 first 1 count 1; current 1\n";
 
-// What happens next: a wait ends, or a datagram comes on line A or B.
-#[derive(Clone, Copy)]
-enum Step {
-    Turn,
-    A(&'static [u8]),
-    B(&'static [u8]),
-}
-
 // What a run came to.
 #[derive(Drop)]
 struct Came {
     answer: Result<Counts, ListenError>,
     text: Vec<u8>,
     calls: u64,
-}
-
-fn datagram<R: Abort + AllocGlobal>(rt: &R, line: u16, bytes: &[u8]) -> LineStep {
-    let bytes = Vec::from_slice(rt.alloc(), bytes).expect(rt, "memory");
-    LineStep::Comes(line, bytes)
-}
-
-// The script of a net, from its parts.
-fn script_of<R: Abort + AllocGlobal>(rt: &R, parts: &[&[Step]]) -> VecDeque<LineStep> {
-    let mut script = VecDeque::new(rt.alloc());
-    for part in parts {
-        for step in part.iter() {
-            let next = match *step {
-                Step::Turn => LineStep::Turn,
-                Step::A(bytes) => datagram(rt, 0, bytes),
-                Step::B(bytes) => datagram(rt, 1, bytes),
-            };
-            script.push_back(next).expect(rt, "memory");
-        }
-    }
-    script
 }
 
 // A setup of so many lines, where these units are named.
@@ -76,14 +46,14 @@ fn setup_of<R: Abort + AllocGlobal>(
 // Hears two lines by such a script. The call of the net with that number fails, and that put.
 fn hear_lines<R: Abort + AllocGlobal>(
     rt: &R,
-    parts: &[&[Step]],
+    steps: &[NetStep],
     units: &[u8],
     failing: u64,
     failing_put: u64,
 ) -> Came {
     let setup = setup_of(rt, 2, units, 16).expect(rt, "a setup");
     let calls = Vec::from_slice(rt.alloc(), &[failing]).expect(rt, "memory");
-    let mut net = MemoryLines::make(rt.alloc(), script_of(rt, parts), calls);
+    let mut net = ScriptedLive::make(rt.alloc(), steps, calls).expect(rt, "memory");
     let puts = Vec::from_slice(rt.alloc(), &[failing_put]).expect(rt, "memory");
     let mut out = MemorySink::make(rt.alloc(), 1024, puts);
     let answer = listen(rt.alloc(), &setup, &mut net, &mut out);
@@ -96,9 +66,13 @@ fn hear_lines<R: Abort + AllocGlobal>(
 }
 
 // Both lines have the same datagram, and then A one without bytes and a heartbeat.
-const TWICE: [&[Step]; 2] = [
-    &[Step::Turn, Step::A(MIXED), Step::B(MIXED)],
-    &[Step::Turn, Step::A(b""), Step::A(BEAT)],
+const TWICE: [NetStep; 6] = [
+    NetStep::Turn,
+    NetStep::Comes(0, MIXED),
+    NetStep::Comes(1, MIXED),
+    NetStep::Turn,
+    NetStep::Comes(0, b""),
+    NetStep::Comes(0, BEAT),
 ];
 
 #[test]
@@ -120,7 +94,11 @@ fn blocks_of_named_units_are_heard(rt: HostRuntime) {
     assert!(rt; came.calls == 5 + 5 + 1);
 }
 
-const ONCE: [&[Step]; 1] = [&[Step::Turn, Step::A(TIME), Step::B(OTHER)]];
+const ONCE: [NetStep; 3] = [
+    NetStep::Turn,
+    NetStep::Comes(0, TIME),
+    NetStep::Comes(1, OTHER),
+];
 
 #[test]
 fn blocks_of_every_unit_are_heard(rt: HostRuntime) {
@@ -140,16 +118,12 @@ fn blocks_of_every_unit_are_heard(rt: HostRuntime) {
 }
 
 // Line A has 70 datagrams, line B one, which is asked for after 64 of them.
-const MANY: [&[Step]; 4] = [
-    &[Step::Turn],
-    &[Step::A(BEAT); 64],
-    &[Step::B(BEAT)],
-    &[Step::A(BEAT); 6],
-];
-
 #[test]
 fn a_full_line_lets_the_other_have_its_turn(rt: HostRuntime) {
-    let came = hear_lines(&rt, &MANY, b"", 0, 0);
+    let mut steps = [NetStep::Comes(0, BEAT); 72];
+    steps[0] = NetStep::Turn;
+    steps[65] = NetStep::Comes(1, BEAT);
+    let came = hear_lines(&rt, &steps, b"", 0, 0);
     assert!(rt; matches!(&came.answer, Ok(counts) if counts.datagrams == 71));
     // The wait, 64 datagrams of A, and B's; a wait that does not, the other 6, and the last wait.
     assert!(rt; came.calls == 1 + 64 + 2 + 1 + 7 + 1 + 1);

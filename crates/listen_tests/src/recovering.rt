@@ -1,12 +1,12 @@
-//! Runs of a live client that asks, over a line, a gap line and the proxy of unit 7.
+//! Runs of a live client that asks, over a line and a gap line, with the numbers 0 and 1, and the
+//! proxy of unit 7, peer 0.
 
-use live_net::{LiveStep, MemoryLive};
 use live_recovery::{
     Account, Counts, Disagreement, Peer, RecoverError, RecoverSetup, Session, recover,
 };
 use memory_devices::MemorySink;
 use pitch_fields::HoldLimit;
-use std::collections::VecDeque;
+use scripted_nets::{NetStep, ScriptedLive};
 use std::process::Abort;
 use std::rt::HostRuntime;
 
@@ -35,19 +35,6 @@ const REFUSED: &[u8] = b"\x0b\0\x01\0\0\0\0\0\x03\x02N";
 
 const ANSWERED: &[u8] = b"\x12\0\x01\0\0\0\0\0\x0a\x04\x07\x02\0\0\0\x01\0A";
 
-// What happens next: a wait ends, a second has passed, a datagram comes on the line or the gap
-// line, and the proxy refuses a connection, brings bytes or ends it.
-#[derive(Clone, Copy)]
-enum Step {
-    Turn,
-    Second,
-    Line(&'static [u8]),
-    Gap(&'static [u8]),
-    Refuses,
-    Brings(&'static [u8]),
-    Ends,
-}
-
 // What a run came to.
 #[derive(Drop)]
 struct Came {
@@ -58,24 +45,6 @@ struct Came {
 
 fn copy<R: Abort + AllocGlobal>(rt: &R, bytes: &[u8]) -> Vec<u8> {
     Vec::from_slice(rt.alloc(), bytes).expect(rt, "memory")
-}
-
-// The script of a net.
-fn script_of<R: Abort + AllocGlobal>(rt: &R, steps: &[Step]) -> VecDeque<LiveStep> {
-    let mut script = VecDeque::new(rt.alloc());
-    for step in steps.iter() {
-        let next = match *step {
-            Step::Turn => LiveStep::Turn,
-            Step::Second => LiveStep::Second,
-            Step::Line(bytes) => LiveStep::Comes(0, copy(rt, bytes)),
-            Step::Gap(bytes) => LiveStep::Comes(1, copy(rt, bytes)),
-            Step::Refuses => LiveStep::Refuses(0),
-            Step::Brings(bytes) => LiveStep::Brings(0, copy(rt, bytes)),
-            Step::Ends => LiveStep::Ends(0),
-        };
-        script.push_back(next).expect(rt, "memory");
-    }
-    script
 }
 
 fn setup_of<R: Abort + AllocGlobal>(rt: &R, hold: u32) -> Option<RecoverSetup> {
@@ -89,10 +58,10 @@ fn setup_of<R: Abort + AllocGlobal>(rt: &R, hold: u32) -> Option<RecoverSetup> {
 }
 
 // Such a run. The call of the net with that number fails, and that put of the sink.
-fn run<R: Abort + AllocGlobal>(rt: &R, steps: &[Step], failing: u64, failing_put: u64) -> Came {
+fn run<R: Abort + AllocGlobal>(rt: &R, steps: &[NetStep], failing: u64, failing_put: u64) -> Came {
     let setup = setup_of(rt, 16).expect(rt, "a setup");
     let calls = Vec::from_slice(rt.alloc(), &[failing]).expect(rt, "memory");
-    let mut net = MemoryLive::make(rt.alloc(), script_of(rt, steps), calls);
+    let mut net = ScriptedLive::make(rt.alloc(), steps, calls).expect(rt, "memory");
     let puts = Vec::from_slice(rt.alloc(), &[failing_put]).expect(rt, "memory");
     let mut out = MemorySink::make(rt.alloc(), 1024, puts);
     let answer = recover(rt.alloc(), &setup, &mut net, &mut out);
@@ -105,17 +74,17 @@ fn run<R: Abort + AllocGlobal>(rt: &R, steps: &[Step], failing: u64, failing_put
 
 // Message 2 is lost. The proxy is called, it accepts the login, and is asked at the next second;
 // message 2 comes on the gap line, and then its answer.
-const LOST: [Step; 10] = [
-    Step::Turn,
-    Step::Line(TIME_1),
-    Step::Line(TIME_3),
-    Step::Turn,
-    Step::Brings(ACCEPTED),
-    Step::Second,
-    Step::Turn,
-    Step::Gap(TIME_2),
-    Step::Gap(RUBBISH),
-    Step::Brings(ANSWERED),
+const LOST: [NetStep; 10] = [
+    NetStep::Turn,
+    NetStep::Comes(0, TIME_1),
+    NetStep::Comes(0, TIME_3),
+    NetStep::Turn,
+    NetStep::Brings(0, ACCEPTED),
+    NetStep::Second,
+    NetStep::Turn,
+    NetStep::Comes(1, TIME_2),
+    NetStep::Comes(1, RUBBISH),
+    NetStep::Brings(0, ANSWERED),
 ];
 
 // Each turn has its wait, both lines until they are quiet, and then the proxy: it is called and the
@@ -183,13 +152,26 @@ fn a_connection_is_begun_again(rt: HostRuntime) {
     // It is refused, ends, or is closed by the client whose login is refused; a second later it is
     // begun again, and its login put. Each turn has a wait, and two lines that are quiet.
     for (steps, calls) in [
-        ([Step::Turn, Step::Refuses, Step::Second].as_slice(), 4 + 5),
         (
-            &[Step::Turn, Step::Turn, Step::Ends, Step::Second],
+            [NetStep::Turn, NetStep::Refuses(0), NetStep::Second].as_slice(),
+            4 + 5,
+        ),
+        (
+            &[
+                NetStep::Turn,
+                NetStep::Turn,
+                NetStep::Ends(0),
+                NetStep::Second,
+            ],
             5 + 4 + 5,
         ),
         (
-            &[Step::Turn, Step::Turn, Step::Brings(REFUSED), Step::Second],
+            &[
+                NetStep::Turn,
+                NetStep::Turn,
+                NetStep::Brings(0, REFUSED),
+                NetStep::Second,
+            ],
             5 + 5 + 5,
         ),
     ] {
@@ -204,12 +186,12 @@ fn a_connection_is_begun_again(rt: HostRuntime) {
 fn copies_that_differ_end_the_run(rt: HostRuntime) {
     // Messages 1 and 2 come on the line, and on the gap line message 1 and another message 2.
     let steps = [
-        Step::Turn,
-        Step::Line(TIME_1),
-        Step::Line(TIME_2),
-        Step::Gap(TIME_1),
-        Step::Gap(OTHER_2),
-        Step::Gap(TIME_3),
+        NetStep::Turn,
+        NetStep::Comes(0, TIME_1),
+        NetStep::Comes(0, TIME_2),
+        NetStep::Comes(1, TIME_1),
+        NetStep::Comes(1, OTHER_2),
+        NetStep::Comes(1, TIME_3),
     ];
     let came = run(&rt, &steps, 0, 0);
     let told = Disagreement {

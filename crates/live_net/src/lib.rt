@@ -7,14 +7,7 @@
 #![tactic(auto)]
 
 mod live;
-mod live_log;
-mod live_script;
-mod memory_lines;
-mod memory_live;
 mod net;
 
 pub use crate::live::{LiveNet, PeerOpened, PeerPut, PeerTaken, WaitEnd};
-pub use crate::live_script::LiveStep;
-pub use crate::memory_lines::{LineStep, MemoryLines};
-pub use crate::memory_live::MemoryLive;
 pub use crate::net::{LineNet, Received, Woken};

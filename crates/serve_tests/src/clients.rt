@@ -1,7 +1,8 @@
 //! Clients at the doors: the places from 0 and from 128 on are those of the proxies of units 2 and
 //! 1, and those from 192 on of the Spin Server of unit 1.
 
-use crate::runs::{BOTH, SECOND, Step, Told, are_told, run};
+use crate::runs::{BOTH, SECOND, Told, are_told, run};
+use scripted_nets::NetStep;
 use std::process::Abort;
 use std::rt::HostRuntime;
 
@@ -43,12 +44,12 @@ const FINISHED: &[u8] = b"\x0e\0\x01\x01\0\0\0\0\x06\x83\x01\0\0\0";
 #[test]
 fn a_gap_goes_out_on_the_gap_line(rt: HostRuntime) {
     let steps = [
-        Step::Turn,
-        Step::Types(b"1 time 33\n1 time 34\n"),
-        Step::Knocks(128),
-        Step::Brings(128, LOGIN),
-        Step::Turn,
-        Step::Brings(128, REQUEST),
+        NetStep::Turn,
+        NetStep::Types(b"1 time 33\n1 time 34\n"),
+        NetStep::Knocks(128),
+        NetStep::Brings(128, LOGIN),
+        NetStep::Turn,
+        NetStep::Brings(128, REQUEST),
     ];
     let came = run(&rt, &steps, 0);
     assert!(rt; came.answer == Ok(()));
@@ -73,20 +74,20 @@ fn a_gap_goes_out_on_the_gap_line(rt: HostRuntime) {
 }
 
 // What happens, and what is put and closed.
-type Case = (&'static [Step], &'static [Told]);
+type Case = (&'static [NetStep], &'static [Told]);
 
 // A client is told of the image that a second advertised, asks for it, and gets it. There is room
 // for five bytes of the response at first.
 const SPUN: Case = (
     &[
-        Step::Turn,
-        Step::Types(b"1 time 33\n"),
-        Step::Knocks(192),
-        Step::Brings(192, SPIN_LOGIN),
-        Step::Second,
-        Step::Turn,
-        Step::Brings(192, ASKED),
-        Step::HasRoom(192, 5),
+        NetStep::Turn,
+        NetStep::Types(b"1 time 33\n"),
+        NetStep::Knocks(192),
+        NetStep::Brings(192, SPIN_LOGIN),
+        NetStep::Second,
+        NetStep::Turn,
+        NetStep::Brings(192, ASKED),
+        NetStep::HasRoom(192, 5),
     ],
     &[
         Told::Waits,
@@ -106,18 +107,18 @@ const SPUN: Case = (
 // ends its connection is not; the next one is let in.
 const SENT_AWAY: Case = (
     &[
-        Step::Turn,
-        Step::Knocks(0),
-        Step::Brings(0, RUBBISH),
-        Step::Turn,
-        Step::Knocks(0),
-        Step::Brings(0, OTHER_LOGIN),
-        Step::Turn,
-        Step::Knocks(0),
-        Step::Ends(0),
-        Step::Turn,
-        Step::Knocks(0),
-        Step::Brings(0, LOGIN),
+        NetStep::Turn,
+        NetStep::Knocks(0),
+        NetStep::Brings(0, RUBBISH),
+        NetStep::Turn,
+        NetStep::Knocks(0),
+        NetStep::Brings(0, OTHER_LOGIN),
+        NetStep::Turn,
+        NetStep::Knocks(0),
+        NetStep::Ends(0),
+        NetStep::Turn,
+        NetStep::Knocks(0),
+        NetStep::Brings(0, LOGIN),
     ],
     &[
         Told::Waits,
@@ -135,22 +136,22 @@ const SENT_AWAY: Case = (
 // One that has no room for five seconds is closed, and the next one is let in.
 const STALLED: Case = (
     &[
-        Step::Turn,
-        Step::Knocks(0),
-        Step::Brings(0, LOGIN),
-        Step::HasRoom(0, 0),
-        Step::Second,
-        Step::HasRoom(0, 0),
-        Step::Second,
-        Step::HasRoom(0, 0),
-        Step::Second,
-        Step::HasRoom(0, 0),
-        Step::Second,
-        Step::HasRoom(0, 0),
-        Step::Second,
-        Step::Turn,
-        Step::Knocks(0),
-        Step::Brings(0, LOGIN),
+        NetStep::Turn,
+        NetStep::Knocks(0),
+        NetStep::Brings(0, LOGIN),
+        NetStep::HasRoom(0, 0),
+        NetStep::Second,
+        NetStep::HasRoom(0, 0),
+        NetStep::Second,
+        NetStep::HasRoom(0, 0),
+        NetStep::Second,
+        NetStep::HasRoom(0, 0),
+        NetStep::Second,
+        NetStep::HasRoom(0, 0),
+        NetStep::Second,
+        NetStep::Turn,
+        NetStep::Knocks(0),
+        NetStep::Brings(0, LOGIN),
     ],
     &[
         Told::Waits,

@@ -1,7 +1,8 @@
 //! What ends a run. What was accepted before it has gone out.
 
-use crate::runs::{FIRST, SECOND, Step, Told, are_told, run, setup_of};
+use crate::runs::{FIRST, SECOND, Told, are_told, run, setup_of};
 use live_venue::{InputFault, ServeError};
+use scripted_nets::NetStep;
 use std::process::Abort;
 use std::rt::HostRuntime;
 use text_lines::TextCause;
@@ -12,13 +13,13 @@ const ORDER: &[u8] =
     b"\x22\0\x01\x01\x01\0\0\0\x1a\x22\0\0\0\0\x07\0\0\0\0\0\0\0B\x64\0ZVZZT \x64\0\x01";
 
 // What happens; the fault of what is typed; and what goes out.
-type Case = (&'static [Step], InputFault, &'static [Told]);
+type Case = (&'static [NetStep], InputFault, &'static [Told]);
 
 const NO_COMMAND: Case = (
     &[
-        Step::Turn,
-        Step::Types(b"1 time 33\n1 ti"),
-        Step::Types(b"me 34\n1 tame 35\n"),
+        NetStep::Turn,
+        NetStep::Types(b"1 time 33\n1 ti"),
+        NetStep::Types(b"me 34\n1 tame 35\n"),
     ],
     InputFault::Bad {
         line: 3,
@@ -36,10 +37,10 @@ const NO_COMMAND: Case = (
 
 const NO_UNIT: Case = (
     &[
-        Step::Turn,
-        Step::Types(b"1 time 33\n3 time 34"),
-        Step::Turn,
-        Step::EndsInput,
+        NetStep::Turn,
+        NetStep::Types(b"1 time 33\n3 time 34"),
+        NetStep::Turn,
+        NetStep::EndsInput,
     ],
     InputFault::NoUnit(2),
     &[
@@ -52,9 +53,9 @@ const NO_UNIT: Case = (
 
 const REFUSED: Case = (
     &[
-        Step::Turn,
-        Step::Types(b"1 add 7 B 100 ZVZZT 1.00\n"),
-        Step::Types(b"1 add 7 B 100 ZVZZT 1.00\n1 time 33\n"),
+        NetStep::Turn,
+        NetStep::Types(b"1 add 7 B 100 ZVZZT 1.00\n"),
+        NetStep::Types(b"1 add 7 B 100 ZVZZT 1.00\n1 time 33\n"),
     ],
     InputFault::Refused {
         line: 2,
@@ -80,7 +81,7 @@ fn a_fault_of_the_input_ends_the_run(rt: HostRuntime) {
 #[test]
 fn a_fault_of_the_net_ends_the_run(rt: HostRuntime) {
     // The first wait; the first read; and the second read, behind the piece and its two datagrams.
-    let steps = [Step::Turn, Step::Types(b"1 time 33\n")];
+    let steps = [NetStep::Turn, NetStep::Types(b"1 time 33\n")];
     let told = [Told::Waits, Told::Says(3, FIRST), Told::Says(4, FIRST)];
     for (failing, count) in [(1, 1), (2, 1), (5, 3)] {
         let came = run(&rt, &steps, failing);

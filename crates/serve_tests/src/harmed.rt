@@ -2,12 +2,12 @@
 //! to 5, and the places from 0 and from 128 on are those of their proxies.
 
 use crate::kept_net::{KeptNet, Said};
-use crate::runs::{FIRST, SECOND, Step, Told, are_told, is_told, script_of, setup_of};
+use crate::runs::{FIRST, SECOND, Told, are_told, is_told, setup_of};
 use harmed_venue::{Harm, HarmedVenue, Shares};
 use live_venue::serve;
+use scripted_nets::{NetStep, ScriptedVenue};
 use std::process::Abort;
 use std::rt::HostRuntime;
-use venue_net::MemoryVenue;
 
 // Heartbeats: the next message of unit 2 is 1, and that of unit 1 is 3.
 const BEAT_2: &[u8] = b"\x08\0\0\x02\x01\0\0\0";
@@ -33,19 +33,19 @@ const LEFT_ALONE: Harm = Harm {
 };
 
 // Two messages of unit 1, each in a turn of its own, and a second.
-const STEPS: &[Step] = &[
-    Step::Turn,
-    Step::Types(b"1 time 33\n"),
-    Step::Turn,
-    Step::Types(b"1 time 34\n"),
-    Step::Second,
+const STEPS: &[NetStep] = &[
+    NetStep::Turn,
+    NetStep::Types(b"1 time 33\n"),
+    NetStep::Turn,
+    NetStep::Types(b"1 time 34\n"),
+    NetStep::Second,
 ];
 
 // What goes out, and what else than waits is done to clients.
 #[derive(Clone, Copy)]
 struct Case {
     harm: Harm,
-    steps: &'static [Step],
+    steps: &'static [NetStep],
     sent: Option<&'static [Told]>,
     put: &'static [Told],
 }
@@ -68,7 +68,8 @@ fn are_put(said: &[Said], told: &[Told]) -> bool {
 // Whether a run through such a net comes to its end, and this goes out and is put below it.
 fn is_run<R: Abort + AllocGlobal>(rt: &R, case: &Case) -> bool {
     let setup = setup_of(rt, 8).expect(rt, "a setup");
-    let net = MemoryVenue::make(rt.alloc(), script_of(rt, case.steps), Vec::new(rt.alloc()));
+    let failing = Vec::new(rt.alloc());
+    let net = ScriptedVenue::make(rt.alloc(), case.steps, failing).expect(rt, "memory");
     let kept = KeptNet::make(rt, net);
     let mut harmed = HarmedVenue::make(rt.alloc(), case.harm, kept).expect(rt, "memory");
     let answer = serve(rt.alloc(), &setup, &mut harmed);
@@ -216,13 +217,13 @@ const CUT: Case = Case {
         places: 256,
     },
     steps: &[
-        Step::Turn,
-        Step::Knocks(128),
-        Step::Brings(128, LOGIN),
-        Step::Second,
-        Step::Turn,
-        Step::Knocks(128),
-        Step::Brings(128, LOGIN),
+        NetStep::Turn,
+        NetStep::Knocks(128),
+        NetStep::Brings(128, LOGIN),
+        NetStep::Second,
+        NetStep::Turn,
+        NetStep::Knocks(128),
+        NetStep::Brings(128, LOGIN),
     ],
     sent: None,
     put: &[

@@ -3,8 +3,9 @@
 ghost use Rattle.std.specs.Prelude.{◌≡◌};
 
 use live_net::{PeerPut, PeerTaken, WaitEnd};
+use scripted_nets::ScriptedVenue;
 use std::process::Abort;
-use venue_net::{InputRead, MemoryVenue, VenueNet};
+use venue_net::{InputRead, VenueNet};
 
 /// What a venue said.
 #[derive(Drop)]
@@ -22,7 +23,7 @@ pub(crate) enum Said {
 #[derive(Drop)]
 pub(crate) struct KeptNet<'a, R> {
     rt: &'a R,
-    net: MemoryVenue,
+    net: ScriptedVenue,
     pub(crate) sent: Vec<Said>,
     pub(crate) put: Vec<Said>,
 }
@@ -33,7 +34,7 @@ fn copy<R: Abort + AllocGlobal>(rt: &R, bytes: &[u8]) -> Vec<u8> {
 
 impl<'a, R: Abort + AllocGlobal> KeptNet<'a, R> {
     /// Nothing was said yet.
-    pub(crate) fn make(rt: &'a R, net: MemoryVenue) -> KeptNet<'a, R>
+    pub(crate) fn make(rt: &'a R, net: ScriptedVenue) -> KeptNet<'a, R>
         ensures { result.net ≡ net }
     {
         KeptNet {
@@ -48,7 +49,7 @@ impl<'a, R: Abort + AllocGlobal> KeptNet<'a, R> {
 impl<'a, R: Abort + AllocGlobal> VenueNet for KeptNet<'a, R> {
     ghost calls = { λ kept. kept.net.calls };
 
-    ghost faults = { λ kept. kept.net.faults };
+    ghost faults = { λ kept. kept.net.failing.faults };
 
     fn wait(&mut self, more: bool) -> WaitEnd {
         self.sent.push(Said::Waits).expect(self.rt, "memory");

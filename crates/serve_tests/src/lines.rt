@@ -1,6 +1,7 @@
 //! What goes out on the lines: those of unit 2 are 0 to 2, those of unit 1 are 3 to 5.
 
-use crate::runs::{BOTH, FIRST, SECOND, Step, Told, are_told, run};
+use crate::runs::{BOTH, FIRST, SECOND, Told, are_told, run};
+use scripted_nets::NetStep;
 use std::process::Abort;
 use std::rt::HostRuntime;
 
@@ -13,17 +14,17 @@ const BEAT_2: &[u8] = b"\x08\0\0\x02\x01\0\0\0";
 const BEAT_1: &[u8] = b"\x08\0\0\x01\x03\0\0\0";
 
 // What is typed in some turns, and what goes out.
-type Case = (&'static [Step], &'static [Told]);
+type Case = (&'static [NetStep], &'static [Told]);
 
 // A line that is not whole is not heard; the end of the input ends it.
 const CUT: Case = (
     &[
-        Step::Turn,
-        Step::Types(b"1 time 33\n1 ti"),
-        Step::Turn,
-        Step::Types(b"me 34\n2 time 35"),
-        Step::Turn,
-        Step::EndsInput,
+        NetStep::Turn,
+        NetStep::Types(b"1 time 33\n1 ti"),
+        NetStep::Turn,
+        NetStep::Types(b"me 34\n2 time 35"),
+        NetStep::Turn,
+        NetStep::EndsInput,
     ],
     &[
         Told::Waits,
@@ -42,11 +43,11 @@ const CUT: Case = (
 // The lines of one piece go out in one datagram. Those of unit 2 are silent until a second passes.
 const BEATEN: Case = (
     &[
-        Step::Turn,
-        Step::Types(b"1 ti"),
-        Step::Turn,
-        Step::Types(b"me 33\n1 time 34\n"),
-        Step::Second,
+        NetStep::Turn,
+        NetStep::Types(b"1 ti"),
+        NetStep::Turn,
+        NetStep::Types(b"me 33\n1 time 34\n"),
+        NetStep::Second,
     ],
     &[
         Told::Waits,

@@ -1,20 +1,21 @@
 //! What is reported once a run is over, and where it is not.
 
-use crate::runs::{Reported, Step, run_reporting};
+use crate::runs::{Reported, run_reporting};
 use live_venue::{InputFault, ReportError, ServeError};
+use scripted_nets::NetStep;
 use std::process::Abort;
 use std::rt::HostRuntime;
 use text_lines::TextCause;
 
 // What is typed. Unit 2, which has the index 0, accepts nothing.
-const TYPED: &[Step] = &[
-    Step::Turn,
-    Step::Types(b"1 time 33\n1 add 7 B 100 ZVZZT 1.00\n1 time 34\n"),
+const TYPED: &[NetStep] = &[
+    NetStep::Turn,
+    NetStep::Types(b"1 time 33\n1 add 7 B 100 ZVZZT 1.00\n1 time 34\n"),
 ];
 
-const FAULTY: &[Step] = &[
-    Step::Turn,
-    Step::Types(b"1 time 33\n1 add 7 B 100 ZVZZT 1.00\n1 time 34\n1 tame\n1 clear\n"),
+const FAULTY: &[NetStep] = &[
+    NetStep::Turn,
+    NetStep::Types(b"1 time 33\n1 add 7 B 100 ZVZZT 1.00\n1 time 34\n1 tame\n1 clear\n"),
 ];
 
 // The books then.
@@ -30,7 +31,7 @@ const FAULT: InputFault = InputFault::Bad {
 // What a run is answered whose report has no room at the put of this number.
 fn answers<R: Abort + AllocGlobal>(
     rt: &R,
-    steps: &[Step],
+    steps: &[NetStep],
     failing: u64,
     answer: Result<(), ReportError>,
     books: &[u8],

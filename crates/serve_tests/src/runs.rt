@@ -3,10 +3,9 @@
 use crate::kept_net::{KeptNet, Said};
 use live_venue::{ReportError, ServeError, ServeSetup, serve, serve_and_report};
 use memory_devices::MemorySink;
-use std::collections::VecDeque;
+use scripted_nets::{NetStep, ScriptedVenue};
 use std::process::Abort;
 use venue_end::{Account, VenueSetup};
-use venue_net::{MemoryVenue, VenueStep};
 use watched_venue::{WatchTrouble, WatchedVenue};
 
 // The seconds 33 and 34 as messages 1 and 2 of unit 1, in one datagram, and each alone.
@@ -15,19 +14,6 @@ pub(crate) const BOTH: &[u8] = b"\x14\0\x02\x01\x01\0\0\0\x06\x20\x21\0\0\0\x06\
 pub(crate) const FIRST: &[u8] = b"\x0e\0\x01\x01\x01\0\0\0\x06\x20\x21\0\0\0";
 
 pub(crate) const SECOND: &[u8] = b"\x0e\0\x01\x01\x02\0\0\0\x06\x20\x22\0\0\0";
-
-/// What happens next, as `VenueStep` has it.
-#[derive(Clone, Copy)]
-pub(crate) enum Step {
-    Turn,
-    Second,
-    Types(&'static [u8]),
-    EndsInput,
-    Knocks(u16),
-    Brings(u16, &'static [u8]),
-    Ends(u16),
-    HasRoom(u16, usize),
-}
 
 /// What is to be said, as `Said` has it.
 #[derive(Clone, Copy)]
@@ -65,25 +51,6 @@ fn copy<R: Abort + AllocGlobal>(rt: &R, bytes: &[u8]) -> Vec<u8> {
     Vec::from_slice(rt.alloc(), bytes).expect(rt, "memory")
 }
 
-/// The script of a net.
-pub(crate) fn script_of<R: Abort + AllocGlobal>(rt: &R, steps: &[Step]) -> VecDeque<VenueStep> {
-    let mut script = VecDeque::new(rt.alloc());
-    for step in steps.iter() {
-        let next = match *step {
-            Step::Turn => VenueStep::Turn,
-            Step::Second => VenueStep::Second,
-            Step::Types(bytes) => VenueStep::Types(copy(rt, bytes)),
-            Step::EndsInput => VenueStep::EndsInput,
-            Step::Knocks(place) => VenueStep::Knocks(place),
-            Step::Brings(place, bytes) => VenueStep::Brings(place, copy(rt, bytes)),
-            Step::Ends(place) => VenueStep::Ends(place),
-            Step::HasRoom(place, room) => VenueStep::HasRoom(place, room),
-        };
-        script.push_back(next).expect(rt, "memory");
-    }
-    script
-}
-
 // A unit whose proxy keeps so many messages.
 fn unit(unit: u8, kept: u32) -> VenueSetup {
     VenueSetup {
@@ -107,10 +74,10 @@ pub(crate) fn setup_of<R: Abort + AllocGlobal>(rt: &R, kept: u32) -> Option<Serv
 }
 
 /// Such a run. The call of the net with that number fails.
-pub(crate) fn run<R: Abort + AllocGlobal>(rt: &R, steps: &[Step], failing: u64) -> Came {
+pub(crate) fn run<R: Abort + AllocGlobal>(rt: &R, steps: &[NetStep], failing: u64) -> Came {
     let setup = setup_of(rt, 8).expect(rt, "a setup");
     let calls = Vec::from_slice(rt.alloc(), &[failing]).expect(rt, "memory");
-    let net = MemoryVenue::make(rt.alloc(), script_of(rt, steps), calls);
+    let net = ScriptedVenue::make(rt.alloc(), steps, calls).expect(rt, "memory");
     let mut kept = KeptNet::make(rt, net);
     let answer = serve(rt.alloc(), &setup, &mut kept);
     drop(setup);
@@ -122,14 +89,14 @@ pub(crate) fn run<R: Abort + AllocGlobal>(rt: &R, steps: &[Step], failing: u64) 
 /// number fails, and the put with the second.
 pub(crate) fn run_reporting<R: Abort + AllocGlobal>(
     rt: &R,
-    steps: &[Step],
+    steps: &[NetStep],
     failing: u64,
     unwritten: u64,
 ) -> Reported {
     let setup = setup_of(rt, 8).expect(rt, "a setup");
     let calls = Vec::from_slice(rt.alloc(), &[failing]).expect(rt, "memory");
     let puts = Vec::from_slice(rt.alloc(), &[unwritten]).expect(rt, "memory");
-    let mut net = MemoryVenue::make(rt.alloc(), script_of(rt, steps), calls);
+    let mut net = ScriptedVenue::make(rt.alloc(), steps, calls).expect(rt, "memory");
     let mut sink = MemorySink::make(rt.alloc(), 20, puts);
     let answer = serve_and_report(rt.alloc(), &setup, &mut net, &mut sink);
     drop(setup);
@@ -143,12 +110,13 @@ pub(crate) fn run_reporting<R: Abort + AllocGlobal>(
 /// number fails.
 pub(crate) fn run_watched<R: Abort + AllocGlobal>(
     rt: &R,
-    steps: &[Step],
+    steps: &[NetStep],
     unwritten: u64,
 ) -> Watched {
     let setup = setup_of(rt, 8).expect(rt, "a setup");
     let puts = Vec::from_slice(rt.alloc(), &[unwritten]).expect(rt, "memory");
-    let net = MemoryVenue::make(rt.alloc(), script_of(rt, steps), Vec::new(rt.alloc()));
+    let failing = Vec::new(rt.alloc());
+    let net = ScriptedVenue::make(rt.alloc(), steps, failing).expect(rt, "memory");
     let sink = MemorySink::make(rt.alloc(), 20, puts);
     let mut watched = WatchedVenue::make(rt.alloc(), net, &[2, 1], sink).expect(rt, "memory");
     let answer = serve(rt.alloc(), &setup, &mut watched);

@@ -1,7 +1,8 @@
 //! What clients ask, as it is written of a net that looks on.
 
 use crate::clients::{ASKED, LOGIN, RUBBISH, SPIN_LOGIN};
-use crate::runs::{Step, run_watched};
+use crate::runs::run_watched;
+use scripted_nets::NetStep;
 use std::process::Abort;
 use std::rt::HostRuntime;
 use watched_venue::WatchTrouble;
@@ -13,22 +14,22 @@ const REST: &[u8] = b"\x010001FEED  PITCH     \x11\0\x01\0\0\0\0\0\x09\x03\x01\x
 
 // Four clients: one of the proxy of unit 2 that sends rubbish, one of that of unit 1, one of the
 // Spin Server of unit 1, and one that comes to the place of the first.
-const STEPS: &[Step] = &[
-    Step::Turn,
-    Step::Types(b"1 time 33\n1 time 34\n"),
-    Step::Knocks(0),
-    Step::Brings(0, RUBBISH),
-    Step::Knocks(128),
-    Step::Brings(128, CUT),
-    Step::Knocks(192),
-    Step::Brings(192, SPIN_LOGIN),
-    Step::Turn,
-    Step::Knocks(0),
-    Step::Brings(0, LOGIN),
-    Step::Brings(128, REST),
-    Step::Second,
-    Step::Turn,
-    Step::Brings(192, ASKED),
+const STEPS: &[NetStep] = &[
+    NetStep::Turn,
+    NetStep::Types(b"1 time 33\n1 time 34\n"),
+    NetStep::Knocks(0),
+    NetStep::Brings(0, RUBBISH),
+    NetStep::Knocks(128),
+    NetStep::Brings(128, CUT),
+    NetStep::Knocks(192),
+    NetStep::Brings(192, SPIN_LOGIN),
+    NetStep::Turn,
+    NetStep::Knocks(0),
+    NetStep::Brings(0, LOGIN),
+    NetStep::Brings(128, REST),
+    NetStep::Second,
+    NetStep::Turn,
+    NetStep::Brings(192, ASKED),
 ];
 
 const LINES: &[u8] = b"unit 1 spin 3 login\n\

@@ -1,2 +1,1 @@
 pub mod VenueCalls
-pub mod layers

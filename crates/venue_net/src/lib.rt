@@ -6,11 +6,6 @@
 //! A count of faults rises where a call fails, and in no other.
 #![tactic(auto)]
 
-mod memory_venue;
 mod net;
-mod venue_log;
-mod venue_script;
 
-pub use crate::memory_venue::MemoryVenue;
 pub use crate::net::{InputRead, VenueNet};
-pub use crate::venue_script::VenueStep;

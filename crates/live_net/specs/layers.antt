@@ -1,3 +1,0 @@
--- What only the layers tell one another: no top call needs it.
-pub mod LiveScripts
-pub mod Scripts
