@@ -84,7 +84,8 @@ impl LiveNet for ScriptedLive {
 
     fn wait(&mut self, more: bool) -> WaitEnd
         ensures calls { AddsLiveCall self.old.calls self.new.calls (Wait more result) }
-        ensures cause { HasCause self.old.failing.faults self.new.failing.faults (WaitEndFailed result) }
+        ensures cause { HasCause self.old.failing.faults self.new.failing.faults
+            (WaitEndFailed result) }
         ensures still { ¬ WaitEndFailed result → self.new.failing.faults ≡ self.old.failing.faults }
         ensures next { IsNextCall self.old.failing self.new.failing }
         ensures listed { IsListed self.new.failing → WaitEndFailed result }
@@ -112,7 +113,8 @@ impl LiveNet for ScriptedLive {
         ensures count { ReceivedWithin result into.new }
         ensures calls { AddsLiveCall self.old.calls self.new.calls
             (Receive line (length into.old) (datagram_in result into.new) result) }
-        ensures cause { HasCause self.old.failing.faults self.new.failing.faults (ReceiveFailed result) }
+        ensures cause { HasCause self.old.failing.faults self.new.failing.faults
+            (ReceiveFailed result) }
         ensures still { ¬ ReceiveFailed result → self.new.failing.faults ≡ self.old.failing.faults }
         ensures next { IsNextCall self.old.failing self.new.failing }
         ensures listed { IsListed self.new.failing → ReceiveFailed result }

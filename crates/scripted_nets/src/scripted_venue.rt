@@ -84,7 +84,8 @@ impl VenueNet for ScriptedVenue {
 
     fn wait(&mut self, more: bool) -> WaitEnd
         ensures calls { AddsVenueCall self.old.calls self.new.calls (Wait more result) }
-        ensures cause { HasCause self.old.failing.faults self.new.failing.faults (WaitEndFailed result) }
+        ensures cause { HasCause self.old.failing.faults self.new.failing.faults
+            (WaitEndFailed result) }
         ensures still { ¬ WaitEndFailed result → self.new.failing.faults ≡ self.old.failing.faults }
         ensures next { IsNextCall self.old.failing self.new.failing }
         ensures listed { IsListed self.new.failing → WaitEndFailed result }
@@ -112,7 +113,8 @@ impl VenueNet for ScriptedVenue {
         ensures count { ReadWithin result into.new }
         ensures calls { AddsVenueCall self.old.calls self.new.calls
             (Read (length into.old) (read_in result into.new) result) }
-        ensures cause { HasCause self.old.failing.faults self.new.failing.faults (ReadFailed result) }
+        ensures cause { HasCause self.old.failing.faults self.new.failing.faults
+            (ReadFailed result) }
         ensures still { ¬ ReadFailed result → self.new.failing.faults ≡ self.old.failing.faults }
         ensures next { IsNextCall self.old.failing self.new.failing }
         ensures listed { IsListed self.new.failing → ReadFailed result }
