@@ -1,19 +1,13 @@
--- Which peers have a connection.
-use Rattle.std.proofs.Common.{◌≡◌, ℕ, ◌≤◌, ◌+◌, List, ◌++◌, [], ◌∷◌, length, map, set, Bool, replicate, false, ap, ◌∙◌, arith}
+-- Which connections of a table stand.
+use Rattle.std.proofs.Common.{◌≡◌, ℕ, zero, suc, List, [], ◌∷◌, set, Bool, refl, ap}
 use Rattle.std.proofs.lemmas.List.{map-set, map-append, set_past, length-map, replicate_more}
-use Rattle.live_sockets.specs.declared.peers.Peer.{Peer}
-use Rattle.live_sockets.specs.layers.OpenPeers.{is_connected}
+use Rattle.std.proofs.Math.Seq.{map-set_same}
 
--- one of them is changed
-pub changed : (peers : List Peer) (i : ℕ) (peer : Peer) → map is_connected (set peers i peer) ≡ set (map is_connected peers) i (is_connected peer)
-changed peers i peer = map-set is_connected peers i peer
+-- one of them is changed, or none where there is no such one, or one more comes
+pub ruleset changes = (map-set, map-set_same, set_past, length-map, map-append, replicate_more)
 
--- one that is not there
-pub not_there : (peers : List Peer) (i : ℕ) (stands : Bool) → length peers ≤ i → set (map is_connected peers) i stands ≡ map is_connected peers
-not_there peers i stands past = set_past (map is_connected peers) i stands (omega (arith, past, length-map peers is_connected))
-
--- one more, without a connection
-pub one_more : (peers : List Peer) (n : ℕ) (peer : Peer) → map is_connected peers ≡ replicate n false → is_connected peer ≡ false → map is_connected (peers ++ peer ∷ []) ≡ replicate (n + 1) false
-one_more peers n peer are none =
-    map-append is_connected peers (peer ∷ []) ∙ ap (λ (l : List Bool). l ++ is_connected peer ∷ []) are
-    ∙ ap (λ (b : Bool). replicate n false ++ b ∷ []) none ∙ replicate_more n false
+-- one that is changed twice is as it was left
+pub changed_again : (stand : List Bool) (i : ℕ) (one other : Bool) → set (set stand i one) i other ≡ set stand i other
+changed_again [] i one other = refl
+changed_again (stands ∷ stand) zero one other = refl
+changed_again (stands ∷ stand) (suc i) one other = ap (λ (l : List Bool). stands ∷ l) (changed_again stand i one other)

@@ -8,6 +8,7 @@ ghost use Rattle.live_sockets.specs.layers.Answers.{write_fails};
 
 use line_sockets::{MOST_TRIES, take_low};
 use live_net::{PeerPut, PeerTaken};
+use mio::event::Event;
 use mio::net::TcpStream;
 use mio::{Interest, Registry, Token};
 use std::io::{ErrorKind, Read, Write};
@@ -18,10 +19,16 @@ use std::{io, net};
 const PEER: Token = Token(2);
 
 /// A connection, of which it may not be known yet whether it stands.
+///
+/// One that was begun is asked for bytes, or for room, at each call. One that was let in is asked
+/// only where it may have some: until it has none, and once the wait told of it again.
 #[derive(Drop)]
 pub struct Connection {
     stream: TcpStream,
     stands: bool,
+    was_begun: bool,
+    may_bring: bool,
+    may_take: bool,
 }
 
 // The answer of a read. One that a signal broke off has none.
@@ -63,11 +70,17 @@ impl Connection {
         registry: &Registry,
         token: Token,
         mut stream: TcpStream,
-        stands: bool,
+        was_begun: bool,
     ) -> io::Result<Connection> {
         stream.set_nodelay(true)?;
         registry.register(&mut stream, token, Interest::READABLE | Interest::WRITABLE)?;
-        Ok(Connection { stream, stands })
+        Ok(Connection {
+            stream,
+            stands: !was_begun,
+            was_begun,
+            may_bring: true,
+            may_take: true,
+        })
     }
 
     /// Begins a connection, of which the registry's wait tells. It takes none of the descriptors 0
@@ -79,7 +92,7 @@ impl Connection {
     ) -> io::Result<Connection> {
         let _low = take_low(rt)?;
         let stream = TcpStream::connect(rt, addr)?;
-        Connection::watched(registry, PEER, stream, false)
+        Connection::watched(registry, PEER, stream, true)
     }
 
     /// The connection of a stream that a listener let in. The registry's wait tells of it under
@@ -89,12 +102,23 @@ impl Connection {
         token: Token,
         stream: TcpStream,
     ) -> io::Result<Connection> {
-        Connection::watched(registry, token, stream, true)
+        Connection::watched(registry, token, stream, false)
     }
 
     /// Closes it. The wait tells of it no more.
-    pub fn end(mut self, registry: &Registry) {
+    pub(crate) fn end(mut self, registry: &Registry) {
         let _was_registered = registry.deregister(&mut self.stream);
+    }
+
+    /// The wait told of it.
+    pub(crate) fn tell(&mut self, event: &Event) {
+        let has_ended = event.is_read_closed() || event.is_write_closed() || event.is_error();
+        if has_ended || event.is_readable() {
+            self.may_bring = true;
+        }
+        if has_ended || event.is_writable() {
+            self.may_take = true;
+        }
     }
 
     // Whether it stands, or fails where it was refused.
@@ -116,38 +140,44 @@ impl Connection {
     }
 
     /// Takes the next bytes to the start of the slice.
-    pub fn take(&mut self, into: &mut [u8]) -> PeerTaken
+    pub(crate) fn take(&mut self, into: &mut [u8]) -> PeerTaken
         requires { 0 < length into.old }
         ensures { PeerTakenWithin result into.new }
     {
+        if !self.may_bring {
+            return PeerTaken::Quiet;
+        }
         match self.stands() {
             Ok(true) => {}
             Ok(false) => return PeerTaken::Quiet,
             Err(_) => return PeerTaken::Ended,
         }
         for _ in 0..MOST_TRIES {
-            match of_read(self.stream.read(into)) {
-                Some(answer) => return answer,
-                None => {}
+            if let Some(answer) = of_read(self.stream.read(into)) {
+                self.may_bring = self.was_begun || answer != PeerTaken::Quiet;
+                return answer;
             }
         }
         PeerTaken::Ended
     }
 
     /// Puts the first bytes of a piece.
-    pub fn put(&mut self, piece: &[u8]) -> PeerPut
+    pub(crate) fn put(&mut self, piece: &[u8]) -> PeerPut
         requires { 0 < length piece.now }
         ensures { PeerPutWithin result piece.now }
     {
+        if !self.may_take {
+            return PeerPut::Full;
+        }
         match self.stands() {
             Ok(true) => {}
             Ok(false) => return PeerPut::Full,
             Err(_) => return PeerPut::Ended,
         }
         for _ in 0..MOST_TRIES {
-            match of_write(self.stream.write(piece)) {
-                Some(answer) => return answer,
-                None => {}
+            if let Some(answer) = of_write(self.stream.write(piece)) {
+                self.may_take = self.was_begun || answer != PeerPut::Full;
+                return answer;
             }
         }
         PeerPut::Ended

@@ -7,10 +7,11 @@
 #![tactic(auto)]
 
 mod connection;
-mod peers;
+mod connections;
 mod seconds;
 mod sockets;
 
 pub use crate::connection::Connection;
+pub use crate::connections::Connections;
 pub use crate::seconds::Seconds;
 pub use crate::sockets::LiveSockets;

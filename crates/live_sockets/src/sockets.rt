@@ -7,7 +7,8 @@ ghost use Rattle.live_net.specs.LiveCalls.{PeerPutWithin, PeerTakenWithin, WaitE
 ghost use Rattle.live_sockets.specs.layers.OpenPeers.{HasConnection, Leaves, is_begun};
 ghost use Rattle.live_sockets.specs.layers.OpenPeers.{stands_after_put, stands_after_take};
 
-use crate::peers::Peers;
+use crate::connection::Connection;
+use crate::connections::Connections;
 use crate::seconds::Seconds;
 use line_sockets::{Lines, Port, Trouble, Waiter, take_low};
 use live_net::{LiveNet, PeerOpened, PeerPut, PeerTaken, Received, WaitEnd};
@@ -29,7 +30,9 @@ use std::{io, net};
 pub struct LiveSockets<R, I> {
     waiter: Waiter<R, I>,
     lines: Lines,
-    peers: Peers,
+    // The peers' addresses, and their connections.
+    addrs: Vec<SocketAddr>,
+    peers: Connections,
     seconds: Seconds,
     trouble: Option<Trouble>,
     faults: u64,
@@ -66,11 +69,13 @@ impl<R: net::Net + Clock + Drop, I: Read + AsRawFd + Drop> LiveSockets<R, I> {
         let sockets = ports.len().saturating_add(peers.len());
         let waiter = Waiter::make(rt, alloc, sockets, input, seconds).map_err(Trouble::of_wait)?;
         let lines = Lines::open(waiter.runtime(), alloc, waiter.registry(), ports, from)?;
-        let peers = Peers::make(alloc, peers)?;
+        let addrs = peers.to_vec(alloc)?;
+        let peers = Connections::make(alloc, peers.len())?;
         let seconds = Seconds::start(waiter.runtime()).map_err(Trouble::of_wait)?;
         Ok(LiveSockets {
             waiter,
             lines,
+            addrs,
             peers,
             seconds,
             trouble: None,
@@ -144,13 +149,24 @@ impl<R: net::Net + Clock + Drop, I: Read + AsRawFd + Drop> LiveNet for LiveSocke
         }
     }
 
+    #[tactic(auto, using(crate::proofs::Connecting::changed_again))]
     fn open(&mut self, peer: u16) -> PeerOpened
         ensures still { self.new.faults ≡ self.old.faults }
         ensures there { result ≡ PeerOpened.Begun → peer < length self.old.connected }
         ensures stands { Leaves self.old self.new peer (is_begun result) }
     {
-        self.peers
-            .open(self.waiter.runtime(), self.waiter.registry(), peer)
+        let waiter = &self.waiter;
+        self.peers.close(waiter.registry(), peer);
+        let Some(addr) = self.addrs.get(usize::from(peer)) else {
+            return PeerOpened::Refused;
+        };
+        let Ok(begun) = Connection::begin(waiter.runtime(), waiter.registry(), *addr) else {
+            return PeerOpened::Refused;
+        };
+        if !self.peers.set(peer, begun) {
+            return PeerOpened::Refused;
+        }
+        PeerOpened::Begun
     }
 
     fn take(&mut self, peer: u16, into: &mut [u8]) -> PeerTaken

@@ -1,9 +1,12 @@
 //! The doors to which clients come.
 
-use crate::places::Places;
+ghost use Rattle.std.specs.Prelude.{◌≡◌, ◌<◌};
+ghost use Rattle.venue_sockets.specs.layers.Places.{door_of};
+
 use crate::tokens::door_token;
 use crate::trouble::VenueTrouble;
 use line_sockets::{MOST_TRIES, take_low};
+use live_sockets::Connections;
 use mio::net::{TcpListener, TcpStream};
 use mio::{Interest, Registry};
 use std::alloc::{AllocError, Global};
@@ -28,6 +31,17 @@ struct Door {
 #[derive(Drop)]
 pub struct Doors {
     doors: Vec<Option<Door>>,
+    // So many places in turn are of one door.
+    each: usize,
+    ghost some: { 0 < each },
+}
+
+// The door of a place, where so many places in turn are of one door.
+fn door_of(place: usize, each: usize) -> usize
+    requires { 0 < each }
+    ensures { result ≡ door_of place each }
+{
+    place / each
 }
 
 // The next client that waits. It takes none of the descriptors 0 to 2.
@@ -110,14 +124,17 @@ fn door_at<R: net::Net>(
 }
 
 impl Doors {
-    /// Opens a door at each address, in their order; where there is none its door stays shut. The
-    /// registry's wait tells of them.
+    /// Opens a door at each address, in their order, with so many places each; where there is no
+    /// address its door stays shut. The registry's wait tells of them.
     pub(crate) fn open<R: net::Net>(
         rt: &R,
         alloc: Global,
         registry: &Registry,
         addrs: &[Option<SocketAddr>],
-    ) -> Result<Doors, VenueTrouble> {
+        each: usize,
+    ) -> Result<Doors, VenueTrouble>
+        requires { 0 < each }
+    {
         let mut doors = Vec::new(alloc);
         let mut number = 0u16;
         for addr in addrs {
@@ -127,7 +144,7 @@ impl Doors {
             }
             number = number.saturating_add(1);
         }
-        Ok(Doors { doors })
+        Ok(Doors { doors, each })
     }
 
     /// The wait told of a door.
@@ -148,28 +165,23 @@ impl Doors {
 
     /// Closes the connections of those who wait at a door that has no free place, so that they
     /// learn of it: of 64 at each door, at most.
-    pub(crate) fn turn_away<R: net::Net>(&mut self, rt: &R, places: &Places) {
+    pub(crate) fn turn_away<R: net::Net>(&mut self, rt: &R, places: &Connections) {
         for (number, door) in self.doors.iter_mut().enumerate() {
             if let Some(door) = door {
-                if door.may_have && !places.has_free(number) {
+                let first = number.saturating_mul(self.each);
+                if door.may_have && !places.has_free(first, self.each) {
                     door.turn_away(rt);
                 }
             }
         }
     }
 
-    /// Whether a client may wait at a door, of which the system would be asked.
-    pub(crate) fn may_have(&self, door: usize) -> bool {
-        match self.doors.get(door) {
-            Some(Some(door)) => door.may_have,
-            _ => false,
-        }
-    }
-
-    /// Lets the next client in that waits at a door, where one does. Asks the system.
-    pub(crate) fn accept<R: net::Net>(&mut self, rt: &R, door: usize) -> Option<TcpStream> {
-        match self.doors.get_mut(door) {
-            Some(Some(door)) => door.accept(rt),
+    /// Lets the next client in that waits at the door of a place, where one does. The system is
+    /// asked only where one may wait.
+    pub(crate) fn accept<R: net::Net>(&mut self, rt: &R, place: u16) -> Option<TcpStream> {
+        match self.doors.get_mut(door_of(usize::from(place), self.each)) {
+            // Each free place is asked in each turn, and mostly nobody waits.
+            Some(Some(door)) if door.may_have => door.accept(rt),
             _ => None,
         }
     }

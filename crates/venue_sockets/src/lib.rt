@@ -7,11 +7,9 @@
 //! read of the input that fails is counted as a fault.
 #![tactic(auto)]
 
-mod client;
 mod doors;
 mod input;
 mod out_lines;
-mod places;
 mod sockets;
 mod tokens;
 mod trouble;

@@ -11,13 +11,12 @@ ghost use Rattle.venue_net.specs.VenueCalls.{ReadFailed, ReadWithin};
 use crate::doors::Doors;
 use crate::input::{Input, VenueInput};
 use crate::out_lines::OutLines;
-use crate::places::Places;
-use crate::tokens::{Told, told_by};
+use crate::tokens::{Told, place_token, told_by};
 use crate::trouble::VenueTrouble;
 use crate::waiter::{RunTime, VenueWaiter};
 use line_sockets::take_low;
 use live_net::{PeerPut, PeerTaken, WaitEnd};
-use live_sockets::Seconds;
+use live_sockets::{Connection, Connections, Seconds};
 use mio::Events;
 use std::alloc::{AllocError, Global};
 use std::io::Read;
@@ -39,7 +38,7 @@ pub struct VenueSockets<R, I> {
     input: Input<I>,
     lines: OutLines,
     doors: Doors,
-    places: Places,
+    places: Connections,
     seconds: Seconds,
     trouble: Option<VenueTrouble>,
     faults: u64,
@@ -73,7 +72,7 @@ fn tell_all<I: Read + AsRawFd + Drop>(
     events: &Events,
     input: &mut Input<I>,
     doors: &mut Doors,
-    places: &mut Places,
+    places: &mut Connections,
 )
     ensures { places.new ≡ places.old }
 {
@@ -119,8 +118,8 @@ impl<R: net::Net + Clock + Drop, I: Read + AsRawFd + Drop> VenueSockets<R, I> {
             VenueTrouble::of_input,
         )?;
         let lines = OutLines::open(waiter.runtime(), alloc, lines)?;
-        let doors = Doors::open(waiter.runtime(), alloc, waiter.registry(), doors)?;
-        let places = Places::make(alloc, count, each)?;
+        let doors = Doors::open(waiter.runtime(), alloc, waiter.registry(), doors, each)?;
+        let places = Connections::make(alloc, count)?;
         let seconds = Seconds::start(waiter.runtime()).map_err(VenueTrouble::of_wait)?;
         Ok(VenueSockets {
             waiter,
@@ -220,13 +219,21 @@ impl<R: net::Net + Clock + Drop, I: Read + AsRawFd + Drop> VenueNet for VenueSoc
         self.lines.send(line, datagram);
     }
 
+    #[tactic(auto, using(live_sockets::proofs::Connecting::changed_again))]
     fn accept(&mut self, place: u16) -> bool
         ensures still { self.new.faults ≡ self.old.faults }
         ensures there { result ≡ true → place < length self.old.connected }
         ensures stands { Leaves self.old self.new place result }
     {
         let waiter = &self.waiter;
-        self.places.accept(waiter.runtime(), waiter.registry(), &mut self.doors, place)
+        self.places.close(waiter.registry(), place);
+        let Some(stream) = self.doors.accept(waiter.runtime(), place) else {
+            return false;
+        };
+        match Connection::accepted(waiter.registry(), place_token(place), stream) {
+            Ok(client) => self.places.set(place, client),
+            Err(_) => false,
+        }
     }
 
     fn take(&mut self, place: u16, into: &mut [u8]) -> PeerTaken

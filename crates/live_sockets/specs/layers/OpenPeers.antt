@@ -1,21 +1,17 @@
 -- What a caller sees of lines and peers over sockets.
-use Rattle.std.specs.Prelude.{◌≡◌, ℕ, Bool, true, false, List, set, get_or, is_some}
+use Rattle.std.specs.Prelude.{◌≡◌, ℕ, Bool, true, false, List, set, get_or}
 use Rattle.live_net.specs.declared.live.PeerOpened.{PeerOpened}
 use Rattle.live_net.specs.declared.live.PeerOpened.TheVariants as opened
 use Rattle.live_net.specs.declared.live.PeerTaken.{PeerTaken}
 use Rattle.live_net.specs.declared.live.PeerTaken.TheVariants as taken
 use Rattle.live_net.specs.declared.live.PeerPut.{PeerPut}
 use Rattle.live_net.specs.declared.live.PeerPut.TheVariants as put
-use Rattle.live_sockets.specs.declared.peers.Peer.{Peer}
 
 -- how many lines there are, which peers have a connection, and how often a line or the wait failed
 pub record OpenLive : Type 0 where
   pub lines : ℕ
   pub connected : List Bool
   pub faults : ℕ
-
-abbrev pub is_connected : Peer → Bool
-is_connected peer = is_some peer.connection
 
 -- this peer has a connection; one that is not there has none
 abbrev pub HasConnection : List Bool → ℕ → Type 0

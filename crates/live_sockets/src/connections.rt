@@ -1,0 +1,134 @@
+//! Connections by their numbers.
+
+ghost use Rattle.std.specs.Prelude.{◌≡◌, ◌≢◌, ◌<◌, length, set, true, false, IfOk};
+ghost use Rattle.std.specs.Prelude.{None, replicate};
+ghost use Rattle.live_net.specs.LiveCalls.{PeerPutWithin, PeerTakenWithin};
+ghost use Rattle.live_sockets.specs.layers.OpenPeers.{HasConnection, stands_after_put};
+ghost use Rattle.live_sockets.specs.layers.OpenPeers.{stands_after_take};
+
+use crate::connection::Connection;
+use live_net::{PeerPut, PeerTaken};
+use mio::Registry;
+use mio::event::Event;
+use std::alloc::{AllocError, Global};
+use std::marker::Model;
+
+/// Connections by their numbers, each of which stands or not. A caller sees which do.
+#[derive(Drop)]
+pub struct Connections {
+    slots: Vec<Option<Connection>>,
+}
+
+impl Model for Connections {
+    ghost use Rattle.std.specs.Prelude.{Bool, List, map, is_some};
+
+    ghost Value = { List Bool };
+
+    ghost view = { λ c. map is_some c.slots.items };
+}
+
+// Closes a connection, where there is one.
+fn close(slot: &mut Option<Connection>, registry: &Registry)
+    ensures { slot.new ≡ None }
+{
+    if let Some(connection) = slot.take() {
+        connection.end(registry);
+    }
+}
+
+#[tactic(auto, using(crate::proofs::Connecting::changes))]
+impl Connections {
+    /// So many, none of which stands yet.
+    pub fn make(alloc: Global, count: usize) -> Result<Connections, AllocError>
+        ensures { IfOk result (λ connections. connections ≡ replicate count false) }
+    {
+        let mut slots = Vec::with_capacity(alloc, count)?;
+        for at in 0..count {
+            slots.push(None)?;
+        }
+        Ok(Connections { slots })
+    }
+
+    /// Whether one of so many, from this number on, does not stand.
+    pub fn has_free(&self, from: usize, count: usize) -> bool {
+        self.slots
+            .iter()
+            .skip(from)
+            .take(count)
+            .any(|slot| slot.is_none())
+    }
+
+    /// The wait told of one.
+    pub fn tell(&mut self, at: usize, event: &Event)
+        ensures { self.new ≡ self.old }
+    {
+        if let Some(slot) = self.slots.get_mut(at) {
+            if let Some(connection) = slot {
+                connection.tell(event);
+            }
+        }
+    }
+
+    /// Has this connection stand at a number, and answers whether there is such a number.
+    pub fn set(&mut self, at: u16, connection: Connection) -> bool
+        ensures there { result ≡ true → at < length self.old }
+        ensures stands { self.new ≡ set self.old at result }
+    {
+        match self.slots.get_mut(usize::from(at)) {
+            Some(slot) => {
+                *slot = Some(connection);
+                true
+            }
+            None => false,
+        }
+    }
+
+    /// Takes the next bytes of one to the start of the slice. Where it has ended it is closed.
+    pub fn take(&mut self, registry: &Registry, at: u16, into: &mut [u8]) -> PeerTaken
+        requires { 0 < length into.old }
+        ensures count { PeerTakenWithin result into.new }
+        ensures stood { result ≢ PeerTaken.Ended → HasConnection self.old at }
+        ensures stands { self.new ≡ set self.old at (stands_after_take result) }
+    {
+        let Some(slot) = self.slots.get_mut(usize::from(at)) else {
+            return PeerTaken::Ended;
+        };
+        let answer = match slot {
+            Some(connection) => connection.take(into),
+            None => PeerTaken::Ended,
+        };
+        if answer == PeerTaken::Ended {
+            close(slot, registry);
+        }
+        answer
+    }
+
+    /// Puts the first bytes of a piece into one. Where it has ended it is closed.
+    pub fn put(&mut self, registry: &Registry, at: u16, piece: &[u8]) -> PeerPut
+        requires { 0 < length piece.now }
+        ensures count { PeerPutWithin result piece.now }
+        ensures stood { result ≢ PeerPut.Ended → HasConnection self.old at }
+        ensures stands { self.new ≡ set self.old at (stands_after_put result) }
+    {
+        let Some(slot) = self.slots.get_mut(usize::from(at)) else {
+            return PeerPut::Ended;
+        };
+        let answer = match slot {
+            Some(connection) => connection.put(piece),
+            None => PeerPut::Ended,
+        };
+        if answer == PeerPut::Ended {
+            close(slot, registry);
+        }
+        answer
+    }
+
+    /// Closes one, where it stands. The wait tells of it no more.
+    pub fn close(&mut self, registry: &Registry, at: u16)
+        ensures { self.new ≡ set self.old at false }
+    {
+        if let Some(slot) = self.slots.get_mut(usize::from(at)) {
+            close(slot, registry);
+        }
+    }
+}
