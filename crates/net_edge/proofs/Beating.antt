@@ -1,5 +1,5 @@
 -- A heartbeat, and the second that passes with it.
-use Rattle.std.proofs.Common.{◌≡◌, ◌+◌, ℕ, Bool, true, false, cond, List, [], ◌∷◌, Option, refl, sym, ap, ◌∙◌, subst}
+use Rattle.std.proofs.Common.{◌≡◌, ◌+◌, ℕ, true, List, [], ◌∷◌, Option, sym, ap, ◌∙◌, subst}
 use Rattle.std.specs.List.{AllByRecursion}
 use Rattle.pitch_io.specs.declared.line.Line.TheVariants.{A, B}
 use Rattle.pitch_io.specs.declared.net.NetDone.{NetDone}
@@ -9,12 +9,11 @@ use Rattle.pitch_model.specs.History.{Raw}
 use Rattle.unit_packets.specs.BlockBytes.{block_bytes, heartbeat_block}
 use Rattle.heard_items.specs.Datagrams.{IsPiece}
 use Rattle.venue_end.specs.Came.{VenueState, Beaten, on_lines}
-use Rattle.pitch_text.specs.declared.verb.Session.{Session}
 use Rattle.pitch_text.specs.declared.verb.Session.TheVariants.{Grp, Spin}
 use Rattle.pitch_text.specs.declared.verb.Verb.TheVariants as verbs
-use Rattle.world_model.specs.Ends.{default_limits, server_cut, stands}
+use Rattle.world_model.specs.Ends.{default_limits}
 use Rattle.world_model.specs.State.{State}
-use Rattle.world_model.specs.Verbs.{seconds, settled, venue_has}
+use Rattle.world_model.specs.Verbs.{seconds, settled}
 use Rattle.net_edge.specs.Acting.{all_tick, in_world, sent_on}
 use Rattle.net_edge.specs.Due.{IsDuePiece, Setting, beat, demo_unit, is_tenth}
 use Rattle.net_edge.specs.Scene.{Scene, done_with}
@@ -23,14 +22,8 @@ use Rattle.net_edge.specs.layers.Ends.{Becomes, HandsOut, Holds, demo_venue}
 use Rattle.net_edge.specs.layers.Playing.{DemoAt, Plays, StageAt, after_beat, all_put}
 use Rattle.net_edge.proofs.Runs.{play_beat}
 use Rattle.net_edge.proofs.Standing.{messages_many, stood_at}
+use Rattle.net_edge.proofs.Taking.{settled_replayed}
 use Rattle.net_edge.proofs.Turning.{none_waits}
-
-settled_replayed : (session : Session) (w : State) → (settled demo_unit default_limits session w).replayed ≡ w.replayed
-settled_replayed session w = by (stands session w.client)
-  where
-    by : (b : Bool) → (cond b w (venue_has demo_unit default_limits (server_cut session) w)).replayed ≡ w.replayed
-    by true = refl
-    by false = refl
 
 -- a second changes nothing of what the proxy has for the gap line
 ticked_replayed : (w : State) → (all_tick w).replayed ≡ w.replayed

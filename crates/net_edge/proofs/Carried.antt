@@ -10,10 +10,10 @@ use Rattle.pitch_io.specs.declared.line.Line.{Line}
 use Rattle.pitch_io.specs.declared.line.Line.TheVariants.{A, B, Gap}
 use Rattle.pitch_io.specs.declared.net.LinkEnd.TheVariants.{GrpClient, GrpServer, SpinClient, SpinServer}
 use Rattle.pitch_io.specs.declared.net.NetTaken.{NetTaken}
-use Rattle.pitch_io.specs.declared.net.NetTaken.TheVariants.{Got, Quiet, End, Failed}
+use Rattle.pitch_io.specs.declared.net.NetTaken.TheVariants.{Got, End}
 use Rattle.pitch_io.specs.declared.sink.Put.{Put as PutAnswer}
 use Rattle.pitch_io.specs.declared.sink.Put.TheVariants as puts
-use Rattle.pitch_io.specs.Nets.{Begin, Send, Next, Put, Take}
+use Rattle.pitch_io.specs.Nets.{Send, Next, Put, Take}
 use Rattle.pitch_model.specs.History.{Raw}
 use Rattle.pitch_model.specs.Honest.{Honest}
 use Rattle.pitch_model.specs.Image.{image}
@@ -81,12 +81,7 @@ pumped_came (suc n) w put is = came_then (SpinPumped the_session) (pumped demo_u
 answers_came : (session : Session) (bytes : List ℕ) (answer : NetTaken) (w : State) (put : List ℕ) → VenueCameTo w put → VenueCameTo (server_answers session bytes answer w) put
 answers_came Grp bytes (Got count) w put is = came_same (venue_has demo_unit default_limits (server_took Grp bytes) w) _ put refl (came_then (server_took Grp bytes) w put (λ b. refl) is)
 answers_came Spin bytes (Got count) w put is = came_then (server_took Spin bytes) w put (λ b. refl) is
-answers_came Grp bytes Quiet w put is = is
-answers_came Grp bytes End w put is = is
-answers_came Grp bytes Failed w put is = is
-answers_came Spin bytes Quiet w put is = is
-answers_came Spin bytes End w put is = is
-answers_came Spin bytes Failed w put is = is
+answers_came session bytes answer w put is = is
 
 serves_came : (bytes : List ℕ) (answer : NetTaken) (goes_on : Bool) (w : State) (put : List ℕ) → VenueCameTo w put → VenueCameTo (server_takes Spin bytes answer goes_on w) put
 serves_came bytes answer true w put is = answers_came Spin bytes answer w put is
@@ -97,8 +92,7 @@ serves_came bytes answer false w put is =
 links_came : (session : Session) (bytes : List ℕ) (answer : NetTaken) (w : State) (put : List ℕ) → VenueCameTo w put → VenueCameTo (link_takes session bytes answer w) put
 links_came session bytes (Got count) w put is = settled_came session (client_has demo_unit default_limits (took (at_client session) bytes) w) put (came_same w _ put refl is)
 links_came session bytes End w put is = came_same (venue_has demo_unit default_limits (server_cut session) w) _ put refl (cut_came session w put is)
-links_came session bytes Quiet w put is = is
-links_came session bytes Failed w put is = is
+links_came session bytes answer w put is = is
 
 heard_venue : (line : Line) (blocks : List Block) (w : State) → (hears demo_unit default_limits line blocks w).venue ≡ w.venue
 heard_venue line [] w = refl
@@ -106,9 +100,7 @@ heard_venue line (block ∷ blocks) w = heard_venue line blocks (hears_block dem
 
 heard_came : (line : Line) (bytes : List ℕ) (answer : NetTaken) (w : State) (put : List ℕ) → VenueCameTo w put → VenueCameTo (heard_by line bytes answer w) put
 heard_came line bytes (Got count) w put is = came_same w _ put (heard_venue line (of_unit demo_unit (blocks_of bytes)) w) is
-heard_came line bytes Quiet w put is = is
-heard_came line bytes End w put is = is
-heard_came line bytes Failed w put is = is
+heard_came line bytes answer w put is = is
 
 published_came : (s : Setting) (turn : ℕ) (w : State) (put : List ℕ) → VenueCameTo w put → VenueCameTo (published s turn w) put
 published_came s turn w put is = by (nat_le turn s.count)
@@ -143,17 +135,11 @@ put_came answer piece later w put waits is =
 
 module _ (s : Setting) where
   venue_more : (step : Step) (n : Scene) → MayCome s step n → VenueCameTo n.world n.spin_server.put → VenueCameTo (scene_after s step n).world (scene_after s step n).spin_server.put
-  venue_more (Did (Begin answer)) n may is = is
-  venue_more (Did (Send A datagram answer)) n may is = is
-  venue_more (Did (Send B datagram answer)) n may is = is
-  venue_more (Did (Send Gap datagram answer)) n may is = is
   venue_more (Did (Next A room bytes answer)) n may is = heard_came A bytes answer n.world n.spin_server.put is
-  venue_more (Did (Next B room bytes answer)) n may is = heard_came B bytes answer n.world n.spin_server.put is
-  venue_more (Did (Next Gap room bytes answer)) n may is = heard_came Gap bytes answer n.world n.spin_server.put is
-  venue_more (Did (Put GrpClient piece answer)) n may is = came_same n.world _ n.spin_server.put refl is
+  venue_more (Did (Next line room bytes answer)) n may is = heard_came line bytes answer n.world n.spin_server.put is
   venue_more (Did (Put GrpServer piece answer)) n may is = came_then (server_put Grp (length (bytes_put answer piece))) n.world n.spin_server.put (λ b. refl) is
-  venue_more (Did (Put SpinClient piece answer)) n may is = came_same n.world _ n.spin_server.put refl is
   venue_more (Did (Put SpinServer piece answer)) n may is = put_came answer piece may.1.0 n.world n.spin_server.put may.1.1 is
+  venue_more (Did (Put at piece answer)) n may is = came_same n.world _ n.spin_server.put refl is
   venue_more (Did (Take GrpClient room bytes answer)) n may is = links_came Grp bytes answer n.world n.spin_server.put is
   venue_more (Did (Take GrpServer room bytes answer)) n may is = answers_came Grp bytes answer n.world n.spin_server.put is
   venue_more (Did (Take SpinClient room bytes answer)) n may is = links_came Spin bytes answer n.world n.spin_server.put is
@@ -165,6 +151,8 @@ module _ (s : Setting) where
       let second : VenueCameTo passed put = came_same (venue_has demo_unit default_limits Second told) passed put refl (came_then Second told put (λ b. refl) (came_then Advertised n.world put (λ b. refl) is)) in
       settled_came Spin (settled demo_unit default_limits Grp passed) put (settled_came Grp passed put second)
   venue_more Turn n may is = published_came s (suc n.turn) n.world n.spin_server.put is
+  venue_more (Did (Send A datagram answer)) n may is = is
+  venue_more step n may is = is
 
   connected_came : VenueCameTo connected []
   connected_came = record { came = server_made Spin ∷ server_made Grp ∷ []; venue_is = refl; put_is = refl }
@@ -201,12 +189,7 @@ module _ (M : List Raw) where
   answers_told : (session : Session) (piece : List ℕ) (answer : NetTaken) (w : State) (bytes : List ℕ) → ClientCameTo w bytes → ClientCameTo (server_answers session piece answer w) bytes
   answers_told Grp piece (Got count) w bytes is = told_same w _ bytes refl is
   answers_told Spin piece (Got count) w bytes is = told_same w _ bytes refl is
-  answers_told Grp piece Quiet w bytes is = is
-  answers_told Grp piece End w bytes is = is
-  answers_told Grp piece Failed w bytes is = is
-  answers_told Spin piece Quiet w bytes is = is
-  answers_told Spin piece End w bytes is = is
-  answers_told Spin piece Failed w bytes is = is
+  answers_told session piece answer w bytes is = is
 
   serves_told : (piece : List ℕ) (answer : NetTaken) (goes_on : Bool) (w : State) (bytes : List ℕ) → ClientCameTo w bytes → ClientCameTo (server_takes Spin piece answer goes_on w) bytes
   serves_told piece answer true w bytes is = answers_told Spin piece answer w bytes is
@@ -230,8 +213,7 @@ module _ (M : List Raw) where
     from = (tt, is.from);
   })
   grp_told piece End w bytes is = record { came = GrpCut ∷ is.came; client_is = ap (end_step demo_client GrpCut) is.client_is; bytes_are = is.bytes_are; from = (tt, is.from) }
-  grp_told piece Quiet w bytes is = is
-  grp_told piece Failed w bytes is = is
+  grp_told piece answer w bytes is = is
 
   -- that of the Spin Server, with bytes that go on with what a server said
   spin_told : (piece : List ℕ) (count : ℕ) (w : State) (bytes : List ℕ) → IsSaid M demo_unit (bytes ++ piece) → ClientCameTo w bytes → ClientCameTo (link_takes Spin piece (Got count) w) (bytes ++ piece)
@@ -265,9 +247,7 @@ module _ (M : List Raw) where
 
   heard_told : (line : Line) (piece : List ℕ) (answer : NetTaken) (w : State) (bytes : List ℕ) → (is_got answer ≡ true → IsPiece M demo_unit piece) → ClientCameTo w bytes → ClientCameTo (heard_by line piece answer w) bytes
   heard_told line piece (Got count) w bytes is_piece is = hears_told line (of_unit demo_unit (blocks_of piece)) w bytes (ours_all (blocks_of piece) (is_piece refl).blocks) is
-  heard_told line piece Quiet w bytes is_piece is = is
-  heard_told line piece End w bytes is_piece is = is
-  heard_told line piece Failed w bytes is_piece is = is
+  heard_told line piece answer w bytes is_piece is = is
 
   connected_told : ClientCameTo connected []
   connected_told = record { came = client.SpinMade ∷ client.GrpMade ∷ []; client_is = refl; bytes_are = refl; from = (tt, (tt, tt)) }
@@ -276,29 +256,18 @@ module _ (M : List Raw) where
   module _ (s : Setting) (R : Scene) (pieces : (line : Line) (datagram : List ℕ) → Contains (line_in line R).came datagram → IsPiece M demo_unit datagram) (said : (bytes : List ℕ) → Begins bytes R.spin_client.came → IsSaid M demo_unit bytes) where
     came_piece : (line : Line) (came : List (List ℕ)) (bytes : List ℕ) (answer : NetTaken) → Begins (came ++ came_by answer bytes) (line_in line R).came → is_got answer ≡ true → IsPiece M demo_unit bytes
     came_piece line came bytes (Got count) begins got = pieces line bytes (subst (λ (ds : List (List ℕ)). Contains ds bytes) (sym begins.1) (Contains-append_left (came ++ bytes ∷ []) begins.0 bytes (Contains-push came bytes)))
-    came_piece line came bytes Quiet begins got = absurd (cc)
-    came_piece line came bytes End begins got = absurd (cc)
-    came_piece line came bytes Failed begins got = absurd (cc)
+    came_piece line came bytes answer begins got = absurd (cc)
 
     client_more : (step : Step) (n : Scene) → IsBefore (scene_after s step n) R → ClientCameTo n.world n.spin_client.came → ClientCameTo (scene_after s step n).world (scene_after s step n).spin_client.came
-    client_more (Did (Begin answer)) n before is = is
-    client_more (Did (Send A datagram answer)) n before is = is
-    client_more (Did (Send B datagram answer)) n before is = is
-    client_more (Did (Send Gap datagram answer)) n before is = is
     client_more (Did (Next A room bytes answer)) n before is = heard_told A bytes answer n.world n.spin_client.came (came_piece A n.a.came bytes answer before.a) is
     client_more (Did (Next B room bytes answer)) n before is = heard_told B bytes answer n.world n.spin_client.came (came_piece B n.b.came bytes answer before.b) is
     client_more (Did (Next Gap room bytes answer)) n before is = heard_told Gap bytes answer n.world n.spin_client.came (came_piece Gap n.gap.came bytes answer before.gap) is
-    client_more (Did (Put GrpClient piece answer)) n before is = told_same n.world _ n.spin_client.came refl is
-    client_more (Did (Put GrpServer piece answer)) n before is = told_same n.world _ n.spin_client.came refl is
-    client_more (Did (Put SpinClient piece answer)) n before is = told_same n.world _ n.spin_client.came refl is
-    client_more (Did (Put SpinServer piece answer)) n before is = told_same n.world _ n.spin_client.came refl is
     client_more (Did (Take GrpClient room bytes answer)) n before is = grp_told bytes answer n.world n.spin_client.came is
     client_more (Did (Take GrpServer room bytes answer)) n before is = answers_told Grp bytes answer n.world n.spin_client.came is
     client_more (Did (Take SpinServer room bytes answer)) n before is = serves_told bytes answer (is_group_open (answer ∷ n.spin_server.answers)) n.world n.spin_client.came is
     client_more (Did (Take SpinClient room bytes (Got count))) n before is = spin_told bytes count n.world n.spin_client.came (said (n.spin_client.came ++ bytes) before.spin) is
-    client_more (Did (Take SpinClient room bytes Quiet)) n before is = none_more n.world n.spin_client.came is
     client_more (Did (Take SpinClient room bytes End)) n before is = spin_ends bytes n.world n.spin_client.came is
-    client_more (Did (Take SpinClient room bytes Failed)) n before is = none_more n.world n.spin_client.came is
+    client_more (Did (Take SpinClient room bytes answer)) n before is = none_more n.world n.spin_client.came is
     client_more (Beat heartbeat answer) n before is =
         let bytes : List ℕ = n.spin_client.came in
         let told : State = venue_has demo_unit default_limits Advertised n.world in
@@ -306,6 +275,10 @@ module _ (M : List Raw) where
         let second : ClientCameTo passed bytes = record { came = client.Second ∷ is.came; client_is = ap (end_step demo_client client.Second) is.client_is; bytes_are = is.bytes_are; from = (tt, is.from) } in
         settled_told Spin (settled demo_unit default_limits Grp passed) bytes (settled_told Grp passed bytes second)
     client_more Turn n before is = published_told s (suc n.turn) n.world n.spin_client.came is
+    client_more (Did (Put GrpClient piece answer)) n before is = told_same n.world _ n.spin_client.came refl is
+    client_more (Did (Put at piece answer)) n before is = told_same n.world _ n.spin_client.came refl is
+    client_more (Did (Send A datagram answer)) n before is = is
+    client_more step n before is = is
 
     client_all : (run : List Step) → IsBefore (scene_of s run) R → ClientCameTo (scene_of s run).world (scene_of s run).spin_client.came
     client_all [] before = published_told s 1 connected [] connected_told

@@ -1,7 +1,6 @@
 -- All that waits is put, at one end after another.
-use Rattle.std.proofs.Common.{◌≡◌, List, length, Option, refl, sym, ◌∙◌, subst}
+use Rattle.std.proofs.Common.{◌≡◌, List, length, Option, refl, sym, ◌∙◌, subst, arith}
 use Rattle.pitch_io.specs.declared.net.LinkEnd.{LinkEnd}
-use Rattle.pitch_io.specs.declared.net.LinkEnd.TheVariants.{GrpClient, GrpServer, SpinClient, SpinServer}
 use Rattle.pitch_io.specs.Nets.{Call}
 use Rattle.venue_end.specs.Came.{VenueState}
 use Rattle.world_model.specs.State.{State}
@@ -17,22 +16,13 @@ abbrev pub put_one : LinkEnd → State → State
 put_one at w = put_at at (length (waits_at at w)) w
 
 pub put_world : (at : LinkEnd) (now : Scene) → (all_put_at at now).world ≡ put_one at now.world
-put_world GrpClient now = refl
-put_world GrpServer now = refl
-put_world SpinClient now = refl
-put_world SpinServer now = refl
+put_world at now = grind arith
 
 pub put_turn : (at : LinkEnd) (now : Scene) → (all_put_at at now).turn ≡ now.turn
-put_turn GrpClient now = refl
-put_turn GrpServer now = refl
-put_turn SpinClient now = refl
-put_turn SpinServer now = refl
+put_turn at now = grind arith
 
 put_ended : (at : LinkEnd) (now : Scene) → ended_in (all_put_at at now) ≡ ended_in now
-put_ended GrpClient now = refl
-put_ended GrpServer now = refl
-put_ended SpinClient now = refl
-put_ended SpinServer now = refl
+put_ended at now = grind arith
 
 -- what a call that puts all at an end ensures of the net's calls
 abbrev pub PutsAll : {V : Type 0} → (V → VenueState → Type 0) → LinkEnd → Option (List Call) → Option (List Call) → Stage V → Type 0

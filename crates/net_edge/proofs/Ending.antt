@@ -1,5 +1,5 @@
 -- A run that ended is a demo.
-use Rattle.std.proofs.Common.{◌≡◌, ℕ, ◌<◌, ◌≤◌, ◌++◌, List, take, Option, None, Some, Result, Ok, Err, refl, sym, ap, ◌∙◌, subst, arith}
+use Rattle.std.proofs.Common.{◌≡◌, ℕ, ◌<◌, ◌≤◌, ◌++◌, List, take, Option, Some, Result, Ok, Err, refl, sym, ap, ◌∙◌, subst, arith}
 use Rattle.std.proofs.lemmas.Bool.{false≢true}
 use Rattle.std.specs.List.{AllByRecursion}
 use Rattle.std.specs.Result.{IsErr, IsErrAnd}
@@ -32,10 +32,8 @@ use Rattle.net_edge.proofs.Sending.{none_called}
 use Rattle.net_edge.proofs.Standing.{stood}
 
 adds : (before after : Option (List Call)) (run : List Step) → ListsCalls (calls_before before) after run → AddsCalls run before after
-adds None None run told = tt
-adds None (Some calls) run told = tt
-adds (Some calls) None run told = tt
 adds (Some before) (Some after) run told = told
+adds before after run told = tt
 
 -- after the last message all were accepted
 all_accepted : (s : Setting) (now : Scene) → s.count < now.turn → IsAllSent s now.turn now.world → now.world.venue.messages ≡ all_messages s

@@ -5,8 +5,8 @@ use Rattle.std.proofs.lemmas.List.{take-append-drop}
 use Rattle.pitch_fields.proofs.Lists.{all_split}
 use Rattle.pitch_io.specs.declared.line.Line.{Line}
 use Rattle.pitch_io.specs.declared.line.Line.TheVariants.{A, B, Gap}
-use Rattle.pitch_io.specs.declared.net.LinkEnd.TheVariants.{GrpClient, GrpServer, SpinClient, SpinServer}
-use Rattle.pitch_io.specs.Nets.{Begin, Send, Next, Put, Take}
+use Rattle.pitch_io.specs.declared.net.LinkEnd.TheVariants.{GrpClient}
+use Rattle.pitch_io.specs.Nets.{Send, Next, Put, Take}
 use Rattle.pitch_messages.specs.Raw.{IsRaw}
 use Rattle.pitch_model.specs.History.{Raw}
 use Rattle.heard_items.specs.Datagrams.{IsPiece}
@@ -19,7 +19,7 @@ use Rattle.net_edge.specs.Acting.{scene_after, scene_of}
 use Rattle.net_edge.specs.Demo.{all_messages}
 use Rattle.net_edge.specs.Due.{Setting, IsDuePiece, demo_unit, accepted, messages}
 use Rattle.net_edge.specs.Scene.{Scene, line_in}
-use Rattle.net_edge.specs.Steps.{Step, Did, Beat, Turn}
+use Rattle.net_edge.specs.Steps.{Step, Did, Beat}
 use Rattle.net_edge.specs.Turns.{AreSteps, MayCome}
 
 -- ---- The plan's messages
@@ -55,23 +55,14 @@ module _ (s : Setting) where
 
   -- a step sends a piece or nothing
   sends_pieces : (step : Step) (n : Scene) → MayCome s step n → AreSentPieces n → AreSentPieces (scene_after s step n)
-  sends_pieces (Did (Begin answer)) n may p = p
   sends_pieces (Did (Send A datagram answer)) n may p = (one_more n.a.sent datagram n.turn p.0 may.1, p.1, p.2)
   sends_pieces (Did (Send B datagram answer)) n may p = (p.0, one_more n.b.sent datagram n.turn p.1 may.1, p.2)
   sends_pieces (Did (Send Gap datagram answer)) n may p = (p.0, p.1, one_more n.gap.sent datagram n.turn p.2 may.1)
-  sends_pieces (Did (Next A room bytes answer)) n may p = p
-  sends_pieces (Did (Next B room bytes answer)) n may p = p
-  sends_pieces (Did (Next Gap room bytes answer)) n may p = p
-  sends_pieces (Did (Put GrpClient piece answer)) n may p = p
-  sends_pieces (Did (Put GrpServer piece answer)) n may p = p
-  sends_pieces (Did (Put SpinClient piece answer)) n may p = p
-  sends_pieces (Did (Put SpinServer piece answer)) n may p = p
-  sends_pieces (Did (Take GrpClient room bytes answer)) n may p = p
-  sends_pieces (Did (Take GrpServer room bytes answer)) n may p = p
-  sends_pieces (Did (Take SpinClient room bytes answer)) n may p = p
-  sends_pieces (Did (Take SpinServer room bytes answer)) n may p = p
   sends_pieces (Beat heartbeat answer) n may p = (p.0, one_more n.b.sent heartbeat n.turn p.1 may.3, p.2)
-  sends_pieces Turn n may p = p
+  sends_pieces (Did (Next A room bytes answer)) n may p = p
+  sends_pieces (Did (Put GrpClient piece answer)) n may p = p
+  sends_pieces (Did (Take GrpClient room bytes answer)) n may p = p
+  sends_pieces step n may p = p
 
   all_sent : (run : List Step) → AreSteps s run → AreSentPieces (scene_of s run)
   all_sent [] steps = (tt, tt, tt)

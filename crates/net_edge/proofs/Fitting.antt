@@ -1,17 +1,15 @@
 -- No datagram that a demo sends is longer than a packer makes one.
 use Rattle.std.proofs.Common.{◌≡◌, ℕ, zero, suc, ◌+◌, ◌-◌, ◌≤◌, ◌++◌, Bool, true, false, ◌||◌, cond, eqb, List, [], ◌∷◌, length, drop, refl, arith, is_some, length-append, Option, None, Some, sym, ◌∙◌, subst}
 use Rattle.std.specs.List.{AllByRecursion, concat}
-use Rattle.std.specs.Prelude.{nat_le}
 use Rattle.pitch_fields.proofs.Lists.{all_take, all_drop, all_replicate}
 use Rattle.pitch_io.specs.declared.line.Line.{Line}
-use Rattle.pitch_io.specs.declared.line.Line.TheVariants.{A, B, Gap}
+use Rattle.pitch_io.specs.declared.line.Line.TheVariants.{A}
 use Rattle.pitch_io.specs.declared.net.LinkEnd.TheVariants.{GrpClient, GrpServer, SpinClient, SpinServer}
-use Rattle.pitch_io.specs.declared.net.NetTaken.{NetTaken}
-use Rattle.pitch_io.specs.declared.net.NetTaken.TheVariants.{Got, Quiet, End, Failed}
-use Rattle.pitch_io.specs.Nets.{Begin, Send, Next, Put, Take}
+use Rattle.pitch_io.specs.declared.net.NetTaken.TheVariants.{Got}
+use Rattle.pitch_io.specs.Nets.{Send, Next, Put, Take}
 use Rattle.pitch_messages.specs.Raw.{IsRaw}
 use Rattle.pitch_messages.specs.declared.session.SessionMessage.{SessionMessage}
-use Rattle.pitch_messages.specs.declared.session.SessionMessage.TheVariants.{Login, LoginReply, GapRequest, GapReply, SpinAvailable, SpinRequest, SpinReply, SpinFinished}
+use Rattle.pitch_messages.specs.declared.session.SessionMessage.TheVariants.{GapRequest}
 use Rattle.unit_packets.specs.Blocks.{Block}
 use Rattle.unit_packets.specs.BlockBytes.{block_bytes, header_bytes}
 use Rattle.unit_packets.specs.Lending.{header_for}
@@ -26,23 +24,20 @@ use Rattle.session_ends.specs.Saying.{heard_by}
 use Rattle.session_ends.specs.Sending.{new_items}
 use Rattle.session_ends.specs.declared.inbox.Heard.{Heard}
 use Rattle.session_ends.specs.declared.role.Said.{Said}
-use Rattle.session_ends.specs.declared.role.Said.TheVariants.{Skipped, TooShort, Message}
+use Rattle.session_ends.specs.declared.role.Said.TheVariants.{Message}
 use Rattle.grp_session.specs.Asking.{datagrams_of}
 use Rattle.grp_session.specs.Budget.{Limits, Spent}
 use Rattle.grp_session.specs.Serving.{Source, message_answer, said_answer, grp_answer, proxy_answer}
 use Rattle.venue_core.specs.Losses.{is_lost}
-use Rattle.venue_core.specs.Plan.{plan_command}
-use Rattle.pitch_text.specs.declared.verb.Session.{Session as Kind}
 use Rattle.pitch_text.specs.declared.verb.Session.TheVariants.{Grp, Spin}
 use Rattle.pitch_text.specs.declared.verb.Verb.TheVariants as verbs
-use Rattle.sending_end.specs.Waiting.{took}
 use Rattle.venue_end.specs.Came.{VenueState, answers_in, proxy_source}
 use Rattle.venue_end.specs.Servers.{proxy_setup}
 use Rattle.venue_end.specs.Sessions.{Session, session_of}
-use Rattle.world_model.specs.Ends.{at_client, default_limits, server_cut, stands, the_session}
+use Rattle.world_model.specs.Ends.{default_limits, the_session}
 use Rattle.world_model.specs.State.{State}
-use Rattle.world_model.specs.Verbs.{client_has, seconds, settled, venue_has}
-use Rattle.net_edge.specs.Acting.{is_group_open, link_takes, scene_after, scene_of}
+use Rattle.world_model.specs.Verbs.{seconds, settled}
+use Rattle.net_edge.specs.Acting.{is_group_open, scene_after, scene_of}
 use Rattle.net_edge.specs.Demo.{all_messages, AreShort}
 use Rattle.net_edge.specs.Due.{Setting, demo_unit, accepted, messages, new_datagrams, copies, line_number, beat, beats, is_tenth, due}
 use Rattle.net_edge.specs.Scene.{Scene, connected, done_with, published}
@@ -50,7 +45,7 @@ use Rattle.net_edge.specs.layers.Ends.{demo_venue}
 use Rattle.net_edge.specs.Steps.{Step, Did, Beat, Turn}
 use Rattle.net_edge.proofs.Feeding.{raws_at}
 use Rattle.net_edge.proofs.Standing.{stood}
-use Rattle.net_edge.proofs.Taking.{heard_replayed, served_replayed}
+use Rattle.net_edge.proofs.Taking.{heard_replayed, link_replayed, served_replayed, settled_replayed}
 
 short_append : (xs ys : List (List ℕ)) → AreShort xs → AreShort ys → AreShort (xs ++ ys)
 short_append [] ys a b = b
@@ -89,20 +84,13 @@ range_short status unit first count v are = by (eqb status 65)
     by false = tt
 
 message_short : (s : Setup) (there : Bool) (l : Limits) (logged : Bool) (spent : Spent) (v : View) (m : SessionMessage) → AreRawsOf v → AreShort (message_answer s there l logged spent v m).lines
-message_short s there l logged spent v (Login sub user password) are = tt
 message_short s there l true spent v (GapRequest u first count) are = range_short _ s.unit first count v are
 message_short s there l false spent v (GapRequest u first count) are = tt
-message_short s there l logged spent v (LoginReply status) are = tt
-message_short s there l logged spent v (GapReply u first count status) are = tt
-message_short s there l logged spent v (SpinAvailable sequence) are = tt
-message_short s there l logged spent v (SpinRequest sequence) are = tt
-message_short s there l logged spent v (SpinReply sequence orders status) are = tt
-message_short s there l logged spent v (SpinFinished sequence) are = tt
+message_short s there l logged spent v m are = tt
 
 said_short : (s : Setup) (there : Bool) (l : Limits) (logged : Bool) (spent : Spent) (v : View) (said : Said) → AreRawsOf v → AreShort (said_answer s there l logged spent v said).lines
 said_short s there l logged spent v (Message m) are = message_short s there l logged spent v m are
-said_short s there l logged spent v Skipped are = tt
-said_short s there l logged spent v TooShort are = tt
+said_short s there l logged spent v said are = tt
 
 answers_short : (s : Setup) (there : Bool) (l : Limits) (logged : Bool) (spent : Spent) (views : List View) (items : List Heard) → AllByRecursion AreRawsOf views → AreShort (answers s (grp_answer s there l) logged spent views items).lines
 answers_short s there l logged spent [] items are = tt
@@ -147,49 +135,23 @@ module _ (s : Setting) (raws : AllByRecursion IsRaw (all_messages s)) where
       proxy_short (proxy_setup demo_venue) session.happened bytes (proxy_source demo_venue now session.happened bytes)
       (all_replicate AreRawsOf (length (new_items session.happened bytes)) (record { messages = now.messages; kept = demo_venue.kept }) (subst (AllByRecursion IsRaw) (sym same) (raws_at s raws turn)))
 
-  settled_replayed : (session : Kind) (w : State) → (settled demo_unit default_limits session w).replayed ≡ w.replayed
-  settled_replayed session w = by (stands session w.client)
-    where
-      by : (b : Bool) → (cond b w (venue_has demo_unit default_limits (server_cut session) w)).replayed ≡ w.replayed
-      by true = refl
-      by false = refl
-
-  links_replayed : (session : Kind) (bytes : List ℕ) (answer : NetTaken) (w : State) → (link_takes session bytes answer w).replayed ≡ w.replayed
-  links_replayed session bytes (Got count) w = settled_replayed session (client_has demo_unit default_limits (took (at_client session) bytes) w)
-  links_replayed session bytes Quiet w = refl
-  links_replayed session bytes End w = refl
-  links_replayed session bytes Failed w = refl
-
   published_replayed : (turn : ℕ) (w : State) → (published s turn w).replayed ≡ w.replayed
-  published_replayed turn w = by (nat_le turn s.count)
-    where
-      by : (b : Bool) → (cond b (done_with verbs.Flush (done_with (verbs.Command (plan_command s.number demo_unit turn)) w)) w).replayed ≡ w.replayed
-      by true = refl
-      by false = refl
+  published_replayed turn w = grind arith
 
   replies_short : (step : Step) (n : Scene) → n.world.venue.messages ≡ messages s n.turn → AreShort n.world.replayed → AreShort (scene_after s step n).world.replayed
-  replies_short (Did (Begin answer)) n same p = p
   replies_short (Did (Send A datagram answer)) n same p = p
-  replies_short (Did (Send B datagram answer)) n same p = p
-  replies_short (Did (Send Gap datagram answer)) n same p = p
-  replies_short (Did (Next A room bytes answer)) n same p = subst AreShort (sym (heard_replayed A bytes answer n.world)) p
-  replies_short (Did (Next B room bytes answer)) n same p = subst AreShort (sym (heard_replayed B bytes answer n.world)) p
-  replies_short (Did (Next Gap room bytes answer)) n same p = subst AreShort (sym (heard_replayed Gap bytes answer n.world)) p
   replies_short (Did (Put GrpClient piece answer)) n same p = p
-  replies_short (Did (Put GrpServer piece answer)) n same p = p
-  replies_short (Did (Put SpinClient piece answer)) n same p = p
-  replies_short (Did (Put SpinServer piece answer)) n same p = p
+  replies_short (Did (Next A room bytes answer)) n same p = subst AreShort (sym (heard_replayed A bytes answer n.world)) p
+  replies_short (Did (Next line room bytes answer)) n same p = subst AreShort (sym (heard_replayed line bytes answer n.world)) p
   replies_short (Did (Take GrpServer room bytes (Got count))) n same p = short_append n.world.replayed _ p (answered_short n.world.venue n.turn bytes (session_of the_session n.world.venue.proxies) same)
-  replies_short (Did (Take GrpServer room bytes Quiet)) n same p = p
-  replies_short (Did (Take GrpServer room bytes End)) n same p = p
-  replies_short (Did (Take GrpServer room bytes Failed)) n same p = p
   replies_short (Did (Take SpinServer room bytes answer)) n same p = subst AreShort (sym (served_replayed bytes answer (is_group_open (answer ∷ n.spin_server.answers)) n.world)) p
-  replies_short (Did (Take GrpClient room bytes answer)) n same p = subst AreShort (sym (links_replayed Grp bytes answer n.world)) p
-  replies_short (Did (Take SpinClient room bytes answer)) n same p = subst AreShort (sym (links_replayed Spin bytes answer n.world)) p
+  replies_short (Did (Take GrpClient room bytes answer)) n same p = subst AreShort (sym (link_replayed Grp bytes answer n.world)) p
+  replies_short (Did (Take SpinClient room bytes answer)) n same p = subst AreShort (sym (link_replayed Spin bytes answer n.world)) p
   replies_short (Beat heartbeat answer) n same p =
       let passed : State = seconds demo_unit default_limits (done_with verbs.Advertise n.world) in
       subst AreShort (sym (settled_replayed Spin (settled demo_unit default_limits Grp passed) ∙ settled_replayed Grp passed)) p
   replies_short Turn n same p = subst AreShort (sym (published_replayed (suc n.turn) n.world)) p
+  replies_short step n same p = p
 
   pub replied_short : s.count ≤ 1000 → (run : List Step) → AreShort (scene_of s run).world.replayed
   replied_short few [] = subst AreShort (sym (published_replayed 1 connected)) tt

@@ -1,5 +1,5 @@
 -- Groups of calls.
-use Rattle.std.proofs.Common.{◌≡◌, ℕ, suc, ◌+◌, ◌<◌, Bool, true, false, ◌&&◌, ◌⊎◌, inl, inr, nat_lt, not, eqb, List, [], ◌∷◌, length, refl, ap, ◌∙◌, arith}
+use Rattle.std.proofs.Common.{◌≡◌, ℕ, suc, ◌+◌, ◌<◌, Bool, true, false, ◌&&◌, ◌⊎◌, nat_lt, not, eqb, List, [], ◌∷◌, length, refl, ap, ◌∙◌, arith}
 use Rattle.std.specs.List.{list_all}
 use Rattle.std.proofs.lemmas.Bool.{lt-ltb, le-ltb}
 use Rattle.std.proofs.lemmas.Bool.Decides.{nat_tests}
@@ -26,21 +26,16 @@ gots_more answer answers count got gots = record {
   all = ap (λ (b : Bool). b && list_all is_got answers) got ∙ gots.all;
 }
 
-pub gots_at : (answers : List NetTaken) (count other : ℕ) → count ≡ other → Gots answers count → Gots answers other
-gots_at answers count other same gots = record { many = gots.many ∙ same; all = gots.all }
-
 -- a call that got nothing ends a group, and so does the hundredth
 pub ends_group : (answer : NetTaken) (answers : List NetTaken) → is_got answer ≡ false → is_group_open (answer ∷ answers) ≡ false
 ends_group answer answers nothing = ap (λ (b : Bool). nat_lt (length (answer ∷ answers)) 100 && (b && list_all is_got answers)) nothing ∙ and-false (nat_lt (length (answer ∷ answers)) 100)
 
-pub full_group : (answers : List NetTaken) → Gots answers 100 → is_group_open answers ≡ false
-full_group answers gots = ap (λ (b : Bool). b && list_all is_got answers) (le-ltb (length answers) 100 (omega (arith, gots.many)))
+pub full_group : (answers : List NetTaken) (count : ℕ) → count ≡ 100 → Gots answers count → is_group_open answers ≡ false
+full_group answers count all gots = ap (λ (b : Bool). b && list_all is_got answers) (le-ltb (length answers) 100 (omega (arith, all, gots.many)))
 
 -- what got nothing
 pub nothing : (answer : NetTaken) → (answer ≡ taken.Quiet) ⊎ ((answer ≡ taken.End) ⊎ (answer ≡ taken.Failed)) → is_got answer ≡ false
-nothing answer (inl e) = ap is_got e
-nothing answer (inr (inl e)) = ap is_got e
-nothing answer (inr (inr e)) = ap is_got e
+nothing answer none = grind (arith, none)
 
 -- the next call is the last one where it is the hundredth, or gets nothing
 pub open_then : (answer : NetTaken) (answers : List NetTaken) (count : ℕ) → Gots answers count → count < 100 → is_group_open (answer ∷ answers) ≡ (is_got answer && not (eqb count 99))
@@ -54,7 +49,4 @@ open_then answer answers count gots few =
     less n few = grind (arith, nat_tests, few)
 
     swap : (a b : Bool) → (a && (b && true)) ≡ (b && a)
-    swap true true = refl
-    swap true false = refl
-    swap false true = refl
-    swap false false = refl
+    swap a b = grind arith

@@ -2,12 +2,12 @@
 use Rattle.std.proofs.Common.{◌≡◌, List, [], ◌++◌, refl, sym, ap, ◌∙◌, append_assoc}
 use Rattle.std.proofs.lemmas.List.{append-nil}
 use Rattle.pitch_io.specs.declared.line.Line.TheVariants.{A, B, Gap}
-use Rattle.pitch_io.specs.declared.net.LinkEnd.TheVariants.{GrpClient, GrpServer, SpinClient, SpinServer}
-use Rattle.pitch_io.specs.Nets.{Begin, Send, Next, Put, Take}
+use Rattle.pitch_io.specs.declared.net.LinkEnd.TheVariants.{GrpClient, SpinClient}
+use Rattle.pitch_io.specs.Nets.{Send, Next, Put, Take}
 use Rattle.net_edge.specs.Acting.{scene_after, bytes_by, came_by}
 use Rattle.net_edge.specs.Due.{Setting}
 use Rattle.net_edge.specs.Scene.{Scene}
-use Rattle.net_edge.specs.Steps.{Step, Did, Beat, Turn}
+use Rattle.net_edge.specs.Steps.{Step, Did}
 
 -- a list is the beginning of another
 abbrev pub Begins : {X : Type 0} → List X → List X → Type 0
@@ -46,20 +46,10 @@ still n m a b gap spin = record {
 
 -- a step only adds
 pub grows : (s : Setting) (step : Step) (n : Scene) → IsBefore n (scene_after s step n)
-grows s (Did (Begin answer)) n = before_same n
-grows s (Did (Send A datagram answer)) n = still n _ refl refl refl refl
-grows s (Did (Send B datagram answer)) n = still n _ refl refl refl refl
-grows s (Did (Send Gap datagram answer)) n = still n _ refl refl refl refl
 grows s (Did (Next A room bytes answer)) n = record { a = (came_by answer bytes, refl); b = begins_same n.b.came; gap = begins_same n.gap.came; spin = begins_same n.spin_client.came }
 grows s (Did (Next B room bytes answer)) n = record { a = begins_same n.a.came; b = (came_by answer bytes, refl); gap = begins_same n.gap.came; spin = begins_same n.spin_client.came }
 grows s (Did (Next Gap room bytes answer)) n = record { a = begins_same n.a.came; b = begins_same n.b.came; gap = (came_by answer bytes, refl); spin = begins_same n.spin_client.came }
-grows s (Did (Put GrpClient piece answer)) n = still n _ refl refl refl refl
-grows s (Did (Put GrpServer piece answer)) n = still n _ refl refl refl refl
-grows s (Did (Put SpinClient piece answer)) n = still n _ refl refl refl refl
-grows s (Did (Put SpinServer piece answer)) n = still n _ refl refl refl refl
-grows s (Did (Take GrpClient room bytes answer)) n = still n _ refl refl refl refl
-grows s (Did (Take GrpServer room bytes answer)) n = still n _ refl refl refl refl
 grows s (Did (Take SpinClient room bytes answer)) n = record { a = begins_same n.a.came; b = begins_same n.b.came; gap = begins_same n.gap.came; spin = (bytes_by answer bytes, refl) }
-grows s (Did (Take SpinServer room bytes answer)) n = still n _ refl refl refl refl
-grows s (Beat heartbeat answer) n = still n _ refl refl refl refl
-grows s Turn n = still n _ refl refl refl refl
+grows s (Did (Send A datagram answer)) n = still n _ refl refl refl refl
+grows s (Did (Put GrpClient piece answer)) n = still n _ refl refl refl refl
+grows s step n = still n _ refl refl refl refl

@@ -1,11 +1,11 @@
 -- What stays as a world goes on: what its venue accepted and sent, how many seconds passed, and the
 -- connections that were cut.
-use Rattle.std.proofs.Common.{◌≡◌, ◌≤◌, ◌==◌, ℕ, zero, suc, ◌||◌, Bool, true, false, cond, List, [], ◌∷◌, length, arith, Option, Some, None, is_some, nat_eq, refl, ◌∙◌}
+use Rattle.std.proofs.Common.{◌≡◌, ◌≤◌, ℕ, zero, suc, ◌||◌, Bool, true, false, cond, List, [], ◌∷◌, length, arith, Option, Some, None, is_some, nat_eq, refl, ◌∙◌}
 use Rattle.pitch_io.specs.declared.line.Line.{Line}
 use Rattle.pitch_io.specs.declared.net.LinkEnd.{LinkEnd}
 use Rattle.pitch_io.specs.declared.net.LinkEnd.TheVariants.{GrpClient, GrpServer, SpinClient, SpinServer}
 use Rattle.pitch_io.specs.declared.net.NetTaken.{NetTaken}
-use Rattle.pitch_io.specs.declared.net.NetTaken.TheVariants.{Got, Quiet, End, Failed}
+use Rattle.pitch_io.specs.declared.net.NetTaken.TheVariants.{Got, End}
 use Rattle.pitch_messages.specs.declared.session.SessionMessage.{SessionMessage}
 use Rattle.pitch_messages.specs.declared.session.SessionMessage.TheVariants.{GapRequest}
 use Rattle.pitch_model.specs.History.{Entry, GrpDown, SpinDown}
@@ -43,11 +43,7 @@ use Rattle.net_edge.specs.layers.Ends.{demo_client, demo_venue}
 -- ---- The budget
 -- what was spent tells the same second
 spent_same : (status : ℕ) (spent : Spent) → (spent_after status spent).now ≡ spent.now
-spent_same status spent = by (nat_eq status 65)
-  where
-    by : (b : Bool) → (cond b (record { now = spent.now; accepted = spent.now ∷ spent.accepted }) spent).now ≡ spent.now
-    by true = refl
-    by false = refl
+spent_same status spent = grind arith
 
 module _ (s : Setup) (there : Bool) (l : Limits) where
   asked_same : (logged : Bool) (spent : Spent) (view : View) (unit sequence count : ℕ) → (message_answer s there l logged spent view (GapRequest unit sequence count)).knows.now ≡ spent.now
@@ -90,19 +86,11 @@ answered_same now bytes (Some session) = proxy_same (proxy_setup demo_venue) ses
 module _ {X : Type 0} (id : ℕ) where
   at_many : (f : Session X → Session X) (ks : List (Session X)) → length (at_session id f ks) ≤ length ks
   at_many f [] = omega arith
-  at_many f (k ∷ ks) = by (k.id == id) (at_many f ks)
-    where
-      by : (b : Bool) → length (at_session id f ks) ≤ length ks → length (cond b (f k ∷ ks) (k ∷ at_session id f ks)) ≤ suc (length ks)
-      by true few = omega arith
-      by false few = omega (arith, few)
+  at_many f (k ∷ ks) = grind (arith, at_many f ks)
 
   without_many : (ks : List (Session X)) → length (without id ks) ≤ length ks
   without_many [] = omega arith
-  without_many (k ∷ ks) = by (k.id == id) (without_many ks)
-    where
-      by : (b : Bool) → length (without id ks) ≤ length ks → length (cond b ks (k ∷ without id ks)) ≤ suc (length ks)
-      by true few = omega arith
-      by false few = omega (arith, few)
+  without_many (k ∷ ks) = grind (arith, without_many ks)
 
 -- ---- A world
 -- what its venue accepted and sent, and the second; it has no more sessions; and what was cut stays
@@ -175,12 +163,7 @@ answers_keep Grp bytes (Got count) w = record {
   gone = λ session is. is;
 }
 answers_keep Spin bytes (Got count) w = venue_keeps (server_took Spin bytes) w refl refl refl (omega arith) (at_many the_session (spin_fed demo_venue w.venue bytes) w.venue.spins)
-answers_keep Grp bytes Quiet w = keeps_none w
-answers_keep Grp bytes End w = keeps_none w
-answers_keep Grp bytes Failed w = keeps_none w
-answers_keep Spin bytes Quiet w = keeps_none w
-answers_keep Spin bytes End w = keeps_none w
-answers_keep Spin bytes Failed w = keeps_none w
+answers_keep session bytes answer w = keeps_none w
 
 serves_keep : (session : Kind) (bytes : List ℕ) (answer : NetTaken) (goes_on : Bool) (w : State) → Keeps w (server_takes session bytes answer goes_on w)
 serves_keep Grp bytes answer goes_on w = answers_keep Grp bytes answer w
@@ -219,8 +202,7 @@ links_keep session bytes (Got count) w =
 links_keep session bytes End w =
     let v : State = venue_has demo_unit default_limits (server_cut session) w in
     keeps_then w v _ (cut_keeps session w) (client_keeps (ended (at_client session)) v (ended_gone session w.client))
-links_keep session bytes Quiet w = keeps_none w
-links_keep session bytes Failed w = keeps_none w
+links_keep session bytes answer w = keeps_none w
 
 -- ---- A call
 pub takes_keep : (at : LinkEnd) (bytes : List ℕ) (answer : NetTaken) (goes_on : Bool) (w : State) → Keeps w (takes at bytes answer goes_on w)
@@ -241,6 +223,4 @@ hears_keep line (block ∷ blocks) w =
 
 pub heard_keeps : (line : Line) (bytes : List ℕ) (answer : NetTaken) (w : State) → Keeps w (hears_by line bytes answer w)
 heard_keeps line bytes (Got count) w = hears_keep line (of_unit demo_unit (blocks_of bytes)) w
-heard_keeps line bytes Quiet w = keeps_none w
-heard_keeps line bytes End w = keeps_none w
-heard_keeps line bytes Failed w = keeps_none w
+heard_keeps line bytes answer w = keeps_none w

@@ -1,16 +1,15 @@
 -- One step more in a run that is under way.
-use Rattle.std.proofs.Common.{◌≡◌, ◌≤◌, ℕ, ◌+◌, List, [], ◌∷◌, ◌++◌, take, drop, length, Option, None, Some, true, refl, ap, sym, ◌∙◌, subst, append_assoc, length-append}
+use Rattle.std.proofs.Common.{◌≡◌, ◌≤◌, ℕ, ◌+◌, List, [], ◌∷◌, ◌++◌, take, drop, length, Option, None, Some, true, refl, ap, sym, ◌∙◌, subst, append_assoc, length-append, arith}
 use Rattle.std.proofs.lemmas.List.{append-nil, length-take-le}
 use Rattle.std.proofs.Math.Seq.{take-add}
 use Rattle.pitch_io.specs.declared.line.Line.{Line}
-use Rattle.pitch_io.specs.declared.line.Line.TheVariants.{A, B, Gap}
+use Rattle.pitch_io.specs.declared.line.Line.TheVariants.{B}
 use Rattle.pitch_io.specs.declared.net.LinkEnd.{LinkEnd}
-use Rattle.pitch_io.specs.declared.net.LinkEnd.TheVariants.{GrpClient, GrpServer, SpinClient, SpinServer}
+use Rattle.pitch_io.specs.declared.net.LinkEnd.TheVariants.{GrpClient}
 use Rattle.pitch_io.specs.declared.net.NetDone.{NetDone}
 use Rattle.pitch_io.specs.Nets.{Call, NetDoneFailed, Send}
 use Rattle.pitch_io.specs.layers.Coming.{ListsCall}
-use Rattle.world_model.specs.State.{State}
-use Rattle.net_edge.specs.Acting.{called, scene_after, sent_on, end_puts, in_world, put_at, all_tick, next_turn}
+use Rattle.net_edge.specs.Acting.{called, scene_after, sent_on, end_puts, in_world, all_tick, next_turn}
 use Rattle.net_edge.specs.Due.{Setting, IsDuePiece, beat, is_tenth}
 use Rattle.net_edge.specs.layers.Playing.{ListsCalls, Plays}
 use Rattle.net_edge.specs.Scene.{Scene, waits_at}
@@ -64,44 +63,19 @@ play_turn s base calls now over goes plays = (
 -- ---- What was sent and put
 -- a datagram more is of the same turn
 pub sent_in_turn : (line : Line) (xs : List (List ℕ)) (now : Scene) → now.turn ≡ (sent_on line xs now).turn
-sent_in_turn A xs now = refl
-sent_in_turn B xs now = refl
-sent_in_turn Gap xs now = refl
+sent_in_turn line xs now = grind arith
 
 pub sent_none : (line : Line) (now : Scene) → sent_on line [] now ≡ now
-sent_none A now = ap (λ (xs : List (List ℕ)). record now { a = record now.a { sent = xs } }) (append-nil now.a.sent)
-sent_none B now = ap (λ (xs : List (List ℕ)). record now { b = record now.b { sent = xs } }) (append-nil now.b.sent)
-sent_none Gap now = ap (λ (xs : List (List ℕ)). record now { gap = record now.gap { sent = xs } }) (append-nil now.gap.sent)
+sent_none line now = grind (arith, append-nil)
 
 pub sent_both : (line : Line) (xs ys : List (List ℕ)) (now : Scene) → sent_on line ys (sent_on line xs now) ≡ sent_on line (xs ++ ys) now
-sent_both A xs ys now = ap (λ (zs : List (List ℕ)). record now { a = record now.a { sent = zs } }) (append_assoc now.a.sent xs ys)
-sent_both B xs ys now = ap (λ (zs : List (List ℕ)). record now { b = record now.b { sent = zs } }) (append_assoc now.b.sent xs ys)
-sent_both Gap xs ys now = ap (λ (zs : List (List ℕ)). record now { gap = record now.gap { sent = zs } }) (append_assoc now.gap.sent xs ys)
-
--- a scene with these bytes put at an end, and another world
-abbrev with_put : LinkEnd → List ℕ → State → Scene → Scene
-with_put GrpClient bytes w now = record now { grp_client = record now.grp_client { put = bytes }; world = w }
-with_put GrpServer bytes w now = record now { grp_server = record now.grp_server { put = bytes }; world = w }
-with_put SpinClient bytes w now = record now { spin_client = record now.spin_client { put = bytes }; world = w }
-with_put SpinServer bytes w now = record now { spin_server = record now.spin_server { put = bytes }; world = w }
+sent_both line xs ys now = grind (arith, append_assoc)
 
 pub put_none : (at : LinkEnd) (now : Scene) → end_puts at [] now ≡ now
-put_none GrpClient now = λ i. with_put GrpClient (append-nil now.grp_client.put i) (put_at_none GrpClient now.world i) now
-put_none GrpServer now = λ i. with_put GrpServer (append-nil now.grp_server.put i) (put_at_none GrpServer now.world i) now
-put_none SpinClient now = λ i. with_put SpinClient (append-nil now.spin_client.put i) (put_at_none SpinClient now.world i) now
-put_none SpinServer now = λ i. with_put SpinServer (append-nil now.spin_server.put i) (put_at_none SpinServer now.world i) now
+put_none at now = grind (arith, append-nil, put_at_none)
 
 pub put_both : (at : LinkEnd) (xs ys : List ℕ) (now : Scene) → end_puts at ys (end_puts at xs now) ≡ end_puts at (xs ++ ys) now
-put_both at xs ys now = by at
-  where
-    world : (at : LinkEnd) → put_at at (length ys) (put_at at (length xs) now.world) ≡ put_at at (length (xs ++ ys)) now.world
-    world at = put_at_both at (length xs) (length ys) now.world ∙ ap (λ (n : ℕ). put_at at n now.world) (sym (length-append xs ys))
-
-    by : (at : LinkEnd) → end_puts at ys (end_puts at xs now) ≡ end_puts at (xs ++ ys) now
-    by GrpClient = λ i. with_put GrpClient (append_assoc now.grp_client.put xs ys i) (world GrpClient i) now
-    by GrpServer = λ i. with_put GrpServer (append_assoc now.grp_server.put xs ys i) (world GrpServer i) now
-    by SpinClient = λ i. with_put SpinClient (append_assoc now.spin_client.put xs ys i) (world SpinClient i) now
-    by SpinServer = λ i. with_put SpinServer (append_assoc now.spin_server.put xs ys i) (world SpinServer i) now
+put_both at xs ys now = grind (arith, append_assoc, put_at_both, length-append)
 
 -- of some bytes the next piece was written
 pub put_next : (at : LinkEnd) (bytes piece : List ℕ) (done count : ℕ) (now : Scene) → piece ≡ drop done bytes → end_puts at (take count piece) (end_puts at (take done bytes) now) ≡ end_puts at (take (done + count) bytes) now
@@ -113,9 +87,7 @@ put_next at bytes piece done count now is =
 -- the rest of what waited waits
 left_after : (at : LinkEnd) (xs : List ℕ) (now : Scene) → waits_at at (end_puts at xs now).world ≡ drop (length xs) (waits_at at now.world)
 left_after GrpClient xs now = waits_left GrpClient (length xs) now.world
-left_after GrpServer xs now = waits_left GrpServer (length xs) now.world
-left_after SpinClient xs now = waits_left SpinClient (length xs) now.world
-left_after SpinServer xs now = waits_left SpinServer (length xs) now.world
+left_after at xs now = waits_left at (length xs) now.world
 
 pub put_may : (at : LinkEnd) (bytes piece : List ℕ) (done : ℕ) (now : Scene) → bytes ≡ waits_at at now.world → done ≤ length bytes → piece ≡ drop done bytes → (later : List ℕ) × (waits_at at (end_puts at (take done bytes) now).world ≡ piece ++ later)
 put_may at bytes piece done now waits within is = (

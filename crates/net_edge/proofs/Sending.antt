@@ -4,8 +4,7 @@ use Rattle.std.specs.List.{AllByRecursion}
 use Rattle.std.specs.Result.{IfErr}
 use Rattle.pitch_fields.proofs.Lists.{all_append}
 use Rattle.pitch_io.specs.declared.net.NetDone.TheVariants.{Done, Failed}
-use Rattle.pitch_io.specs.Nets.{Call, Begin, Send, Next, Put, Take}
-use Rattle.pitch_io.specs.layers.Coming.{ListsCall}
+use Rattle.pitch_io.specs.Nets.{Call, Begin, Send}
 use Rattle.net_edge.specs.Acting.{scene_of}
 use Rattle.net_edge.specs.Breaking.{Breaks, BreaksOff}
 use Rattle.net_edge.specs.Demo.{IsDemo, BreaksDemo, AddsCalls}
@@ -24,26 +23,15 @@ pub none_called : (s : Setting) (calls : Option (List Call)) → BreaksDemo s ca
 none_called s None = tt
 none_called s (Some calls) = inl refl
 
-pub unbegun : (s : Setting) (before after : Option (List Call)) → ListsCall before after (Begin Failed) → BreaksDemo s before after errors.NetFault
-unbegun s None None lists = tt
-unbegun s None (Some after) lists = tt
-unbegun s (Some before) None lists = tt
-unbegun s (Some before) (Some after) lists = inl lists
-
 pub broke_demo : (s : Setting) (before after : Option (List Call)) (error : DemoError) → Breaks s (calls_before before) after error → BreaksDemo s before after error
-broke_demo s None None error broke = tt
-broke_demo s None (Some after) error broke = tt
-broke_demo s (Some before) None error broke = tt
 broke_demo s (Some before) (Some after) error broke = inr broke
+broke_demo s before after error broke = tt
 
 -- ---- What was sent
 module _ (s : Setting) where
   call_sends : (call : Call) (now : Scene) → MayCall s call now → SendsPiece s call
-  call_sends (Begin answer) now may = tt
   call_sends (Send line datagram answer) now may = piece_of_all s now.turn datagram may
-  call_sends (Next line room bytes answer) now may = tt
-  call_sends (Put at piece answer) now may = tt
-  call_sends (Take at room bytes answer) now may = tt
+  call_sends call now may = tt
 
   run_sends : (run : List Step) → AreSteps s run → AllByRecursion (SendsPiece s) (calls_of run)
   run_sends [] steps = tt
@@ -52,30 +40,24 @@ module _ (s : Setting) where
   run_sends (Turn ∷ before) steps = run_sends before steps.1
 
   failed_sends : (error : DemoError) (failed : List Call) (now : Scene) → BreaksOff s error failed now → AllByRecursion (SendsPiece s) failed
-  failed_sends errors.NetFault [] now off = absurd off
   failed_sends errors.NetFault (call ∷ []) now off = (call_sends call now off.1, tt)
-  failed_sends errors.NetFault (call ∷ other ∷ rest) now off = absurd off
   failed_sends errors.OutOfMemory [] now off = tt
-  failed_sends errors.OutOfMemory (call ∷ rest) now off = absurd off
+  failed_sends error failed now off = absurd off
 
   begun_sends : (before after calls : List Call) → AllByRecursion (SendsPiece s) calls → after ≡ calls ++ (Begin Done ∷ before) → SendsPieces s (Some before) (Some after)
   begun_sends before after calls all is = (calls ++ Begin Done ∷ [], is ∙ sym (append_assoc calls (Begin Done ∷ []) before), all_append (SendsPiece s) calls (Begin Done ∷ []) all (tt, tt))
 
   demo_sends : (before after : Option (List Call)) (run : List Step) → AddsCalls run before after → AreSteps s run → SendsPieces s before after
-  demo_sends None None run adds steps = tt
-  demo_sends None (Some after) run adds steps = tt
-  demo_sends (Some before) None run adds steps = tt
   demo_sends (Some before) (Some after) run adds steps = begun_sends before after (calls_of run) (run_sends run steps) adds
+  demo_sends before after run adds steps = tt
 
   broke_sends : (before after : Option (List Call)) (error : DemoError) → BreaksDemo s before after error → SendsPieces s before after
-  broke_sends None None error broke = tt
-  broke_sends None (Some after) error broke = tt
-  broke_sends (Some before) None error broke = tt
   broke_sends (Some before) (Some after) errors.OutOfMemory (inl same) = ([], same, tt)
   broke_sends (Some before) (Some after) errors.NetFault (inl failed) = (Begin Failed ∷ [], failed, (tt, tt))
   broke_sends (Some before) (Some after) error (inr broke) =
       begun_sends before after (broke.failed ++ calls_of broke.run)
       (all_append (SendsPiece s) broke.failed (calls_of broke.run) (failed_sends error broke.failed (scene_of s broke.run) broke.broke) (run_sends broke.run broke.steps)) broke.told
+  broke_sends before after error broke = tt
 
   -- nothing was called
   pub sends_nothing : (calls : Option (List Call)) → SendsPieces s calls calls

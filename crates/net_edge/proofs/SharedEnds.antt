@@ -1,12 +1,11 @@
 -- A venue's end over a shared unit.
 use Rattle.std.proofs.Common.{◌≡◌, ◌≤◌, ◌<◌, ℕ, suc, ◌+◌, ◌-◌, ◌&&◌, Bool, true, false, cond, Option, None, Some, is_some, is_none, List, [], ◌∷◌, ◌++◌, length, drop, refl, sym, ap, ◌∙◌, subst, arith, length-append, length-drop}
 use Rattle.std.proofs.Math.Seq.{drop-length}
-use Rattle.std.proofs.lemmas.List.{append-nil, drop-append-le}
+use Rattle.std.proofs.lemmas.List.{drop-append-le}
 use Rattle.std.specs.List.{AllByRecursion}
 use Rattle.pitch_fields.specs.Limits.{last_sequence}
 use Rattle.pitch_text.specs.declared.command.Command.{Command}
-use Rattle.pitch_text.specs.declared.verb.Session.{Session}
-use Rattle.pitch_text.specs.declared.verb.Session.TheVariants.{Grp, Spin}
+use Rattle.pitch_text.specs.declared.verb.Session.TheVariants.{Grp}
 use Rattle.unit_packets.specs.BlockBytes.{block_bytes, heartbeat_block}
 use Rattle.unit_packets.specs.Packing.{IsPacking, packed}
 use Rattle.pitch_model.specs.History.{Raw}
@@ -33,10 +32,10 @@ use Rattle.venue_end.specs.Sessions.{Session as Served_session, happens_at, sess
 use Rattle.venue_end.specs.Stands.{ServersAre}
 use Rattle.venue_end.specs.declared.servers.Servers.{Servers}
 use Rattle.venue_end.specs.declared.setup.VenueSetup.{VenueSetup}
-use Rattle.venue_end.specs.layers.Serving.{ComesTo, OfServers, OverSide, StillHas}
+use Rattle.venue_end.specs.layers.Serving.{ComesTo, OfServers, StillHas}
 use Rattle.venue_end.proofs.Ends.{servers_still}
 use Rattle.served_laws.proofs.Sessions.{became, one_becomes}
-use Rattle.world_model.specs.Ends.{default_limits, server_cut, server_made, server_put, server_took, server_waits, the_session}
+use Rattle.world_model.specs.Ends.{default_limits, server_took, the_session}
 use Rattle.world_model.specs.State.{State}
 use Rattle.world_model.specs.Verbs.{pumped, pumps, sent_whole}
 use Rattle.net_edge.specs.Due.{demo_unit}
@@ -59,22 +58,6 @@ opens market servers unsent s s_is none has are = record {
 abbrev pub IsAlone : VenueCame → Type 0
 IsAlone came = (now : VenueState) → journal_in demo_venue (venue_step demo_venue came now) ≡ journal_in demo_venue now
 
-made_alone : (session : Session) → IsAlone (server_made session)
-made_alone Grp now = refl
-made_alone Spin now = refl
-
-took_alone : (session : Session) (piece : List ℕ) → IsAlone (server_took session piece)
-took_alone Grp piece now = refl
-took_alone Spin piece now = refl
-
-put_alone : (session : Session) (count : ℕ) → IsAlone (server_put session count)
-put_alone Grp count now = refl
-put_alone Spin count now = refl
-
-cut_alone : (session : Session) → IsAlone (server_cut session)
-cut_alone Grp now = refl
-cut_alone Spin now = refl
-
 module _ (unsent : List Raw) (next : ℕ) where
   pub alone_is : (market market' : Writing) (old new : Servers) (came : VenueCame) (now : VenueState) → IsAlone came → StillHas SharedHas market market' → ServersAre demo_venue new (venue_step demo_venue came now) → SharedIs market old unsent next now
       → SharedIs market' new unsent next (venue_step demo_venue came now)
@@ -91,26 +74,6 @@ module _ (unsent : List Raw) (next : ℕ) where
   pub alone_comes : (market : Writing) (old new : Servers) (came : VenueCame) → IsAlone came → ComesTo old new came → (now : VenueState) → SharedIs market old unsent next now → SharedIs market new unsent next (venue_step demo_venue came now)
   alone_comes market old new came alone comes now is = alone_is market market old new came now alone (λ j has. has) (comes demo_venue now is.are) is
 
-  -- at one session, which is told as another that it is
-  module _ (market : Writing) (old new : Servers) (session known : Session) (same : session ≡ known) where
-    pub made_comes : ComesTo old new (server_made known) → (now : VenueState) → SharedIs market old unsent next now → SharedIs market new unsent next (venue_step demo_venue (server_made session) now)
-    made_comes comes = alone_comes market old new (server_made session) (made_alone session) (subst (λ (x : Session). ComesTo old new (server_made x)) (sym same) comes)
-
-    pub put_comes : (count : ℕ) → ComesTo old new (server_put known count) → (now : VenueState) → SharedIs market old unsent next now → SharedIs market new unsent next (venue_step demo_venue (server_put session count) now)
-    put_comes count comes = alone_comes market old new (server_put session count) (put_alone session count) (subst (λ (x : Session). ComesTo old new (server_put x count)) (sym same) comes)
-
-    pub cut_comes : ComesTo old new (server_cut known) → (now : VenueState) → SharedIs market old unsent next now → SharedIs market new unsent next (venue_step demo_venue (server_cut session) now)
-    cut_comes comes = alone_comes market old new (server_cut session) (cut_alone session) (subst (λ (x : Session). ComesTo old new (server_cut x)) (sym same) comes)
-
-    pub took_comes : (market' : Writing) (piece : List ℕ) → OverSide SharedHas market old (λ s now. ServersAre s new (venue_step s (server_took known piece) now)) → StillHas SharedHas market market'
-        → (now : VenueState) → SharedIs market old unsent next now → SharedIs market' new unsent next (venue_step demo_venue (server_took session piece) now)
-    took_comes market' piece comes still now is =
-        alone_is market market' old new (server_took session piece) now (took_alone session piece) still
-        (subst (λ (x : Session). ServersAre demo_venue new (venue_step demo_venue (server_took x piece) now)) (sym same) (comes demo_venue now is.are is.has)) is
-
-    pub waits_are : (bytes : List ℕ) → OfServers old (λ s now. bytes ≡ server_waits known now) → (now : VenueState) → SharedIs market old unsent next now → bytes ≡ server_waits session now
-    waits_are bytes are now is = are demo_venue now is.are ∙ ap (λ (x : Session). server_waits x now) (sym same)
-
 -- ---- What goes on the gap line
 answer_pieces : (now : VenueState) → AreMessages now.messages → (bytes : List ℕ) (session : Option (Served_session Source)) → AllByRecursion (IsPiece now.messages demo_unit) (answers_in demo_venue now bytes session).lines
 answer_pieces now are bytes None = tt
@@ -119,20 +82,8 @@ answer_pieces now are bytes (Some session) =
     proxy_pieces now.messages demo_unit small are.raws are.few (proxy_setup demo_venue) session.happened bytes (proxy_source demo_venue now session.happened bytes) refl
     (views_same (length (new_items session.happened bytes)) (kept_view (journal_in demo_venue now)) now.messages refl)
 
-line_pieces : (now : VenueState) → AreMessages now.messages → (session : Session) (piece : List ℕ) → AllByRecursion (IsPiece now.messages demo_unit) (on_gap_line demo_venue (server_took session piece) now)
-line_pieces now are Grp piece = answer_pieces now are piece (session_of the_session now.proxies)
-line_pieces now are Spin piece = tt
-
-module _ (unsent : List Raw) (next : ℕ) (market : Writing) (old : Servers) (session : Session) (piece : List ℕ) (lines : List (List ℕ)) where
-  pub grp_hands : (lines' : List (List ℕ)) → session ≡ Grp → OverSide SharedHas market old (λ s now. lines' ≡ lines ++ on_gap_line s (server_took Grp piece) now) → (now : VenueState) → SharedIs market old unsent next now → HandsOut now lines lines' (on_gap_line demo_venue (server_took session piece) now)
-  grp_hands lines' same lined now is =
-      subst (λ (x : Session). HandsOut now lines lines' (on_gap_line demo_venue (server_took x piece) now)) (sym same)
-      (record { lined = lined demo_venue now is.are is.has; pieces = line_pieces now is.has.messages Grp piece })
-
-  pub spin_hands : session ≡ Spin → (now : VenueState) → SharedIs market old unsent next now → HandsOut now lines lines (on_gap_line demo_venue (server_took session piece) now)
-  spin_hands same now is =
-      subst (λ (x : Session). HandsOut now lines lines (on_gap_line demo_venue (server_took x piece) now)) (sym same)
-      (record { lined = sym (append-nil lines); pieces = tt })
+pub grp_hands : (now : VenueState) → AreMessages now.messages → (piece : List ℕ) (lines lines' : List (List ℕ)) → lines' ≡ lines ++ on_gap_line demo_venue (server_took Grp piece) now → HandsOut now lines lines' (on_gap_line demo_venue (server_took Grp piece) now)
+grp_hands now are piece lines lines' lined = record { lined = lined; pieces = answer_pieces now are piece (session_of the_session now.proxies) }
 
 -- ---- The market
 pub accepts_comes : (market market' : Writing) (servers : Servers) (unsent unsent' : List Raw) (next : ℕ) (command : Command) (raw : Raw) → raw ≡ raw_of command → ((j : Journal) → SharedHas market j → Accepts market market' command j) → unsent' ≡ unsent ++ raw ∷ []

@@ -10,7 +10,7 @@ use Rattle.pitch_fields.specs.Limits.{last_sequence}
 use Rattle.pitch_fields.proofs.Lists.{all_push}
 use Rattle.pitch_messages.specs.Raw.{IsRaw}
 use Rattle.pitch_messages.specs.declared.session.SessionMessage.{SessionMessage}
-use Rattle.pitch_messages.specs.declared.session.SessionMessage.TheVariants.{Login, LoginReply, GapRequest, GapReply, SpinAvailable, SpinRequest, SpinReply, SpinFinished}
+use Rattle.pitch_messages.specs.declared.session.SessionMessage.TheVariants.{Login, LoginReply, SpinRequest}
 use Rattle.pitch_model.specs.Advertising.{Operation, Accept, Advertise, accepted_by, advertised_by, with_sequence}
 use Rattle.pitch_model.specs.Book.{book_after}
 use Rattle.pitch_model.specs.History.{Raw}
@@ -27,7 +27,7 @@ use Rattle.session_ends.specs.Saying.{heard_by}
 use Rattle.session_ends.specs.Sending.{new_items, sent_bytes, sent_since, some_bytes}
 use Rattle.session_ends.specs.declared.inbox.Heard.{Heard}
 use Rattle.session_ends.specs.declared.role.Said.{Said}
-use Rattle.session_ends.specs.declared.role.Said.TheVariants.{Skipped, TooShort, Message}
+use Rattle.session_ends.specs.declared.role.Said.TheVariants.{Message}
 use Rattle.session_ends.proofs.Runs.{IsOrder, rises_nowhere, rises_to}
 use Rattle.grp_session.specs.Budget.{Limits, Spent}
 use Rattle.grp_session.specs.Serving.{Source}
@@ -184,8 +184,7 @@ proxy_answers writer before after kept j es piece old new limits spent counted r
 -- a message is answered the same whether all sequences are seen or the last ten
 module _ (s : Setup) (history : List Operation) (spin : Option Spin) where
   request_same : (sequence : ℕ) (spin' : Option Spin) → served_answer s (served_at history) sequence spin' ≡ served_answer s (seen_of history) sequence spin'
-  request_same sequence None = refl
-  request_same sequence (Some running) = refl
+  request_same sequence spin' = grind arith
 
   logged_same : (logged : Bool) (sequence : ℕ) → spin_message_answer s logged spin (served_at history) (SpinRequest sequence) ≡ spin_message_answer s logged spin (seen_of history) (SpinRequest sequence)
   logged_same false sequence = refl
@@ -198,17 +197,11 @@ module _ (s : Setup) (history : List Operation) (spin : Option Spin) where
       let status : ℕ = login_status s logged sub user password in
       ap (λ (newest : Option ℕ). record { reply = sent_bytes s (LoginReply status) ++ after_login s status newest; lines = []; knows = spin }) (sym (seen_newest history))
   message_same logged (SpinRequest sequence) = logged_same logged sequence
-  message_same logged (LoginReply status) = refl
-  message_same logged (GapRequest unit sequence count) = refl
-  message_same logged (GapReply unit sequence count status) = refl
-  message_same logged (SpinAvailable sequence) = refl
-  message_same logged (SpinReply sequence orders status) = refl
-  message_same logged (SpinFinished sequence) = refl
+  message_same logged message = refl
 
   said_same : (logged : Bool) (said : Said) → spin_said_answer s logged spin (served_at history) said ≡ spin_said_answer s logged spin (seen_of history) said
-  said_same logged Skipped = refl
-  said_same logged TooShort = refl
   said_same logged (Message message) = message_same logged message
+  said_same logged said = refl
 
 -- and so are all messages
 module _ {S V : Type 0} (s : Setup) (each : Answerer S V) (v w : V) (same : (logged : Bool) (state : S) (item : Heard) → each logged state v item ≡ each logged state w item) where

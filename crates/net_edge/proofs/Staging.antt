@@ -1,9 +1,9 @@
 -- What a stage's ends become.
-use Rattle.std.proofs.Common.{◌≡◌, ℕ, ◌++◌, Bool, true, false, cond, List, [], ◌∷◌, drop, map, reverse, refl, sym, ap, ◌∙◌, subst, append_assoc}
+use Rattle.std.proofs.Common.{◌≡◌, ℕ, ◌++◌, Bool, false, List, [], ◌∷◌, drop, map, reverse, refl, sym, ap, ◌∙◌, subst, append_assoc}
 use Rattle.std.proofs.lemmas.List.{append-nil, reverse-append}
 use Rattle.pitch_io.specs.declared.line.Line.{Line}
 use Rattle.pitch_io.specs.declared.net.NetTaken.{NetTaken}
-use Rattle.pitch_io.specs.declared.net.NetTaken.TheVariants.{Got, Quiet, End, Failed}
+use Rattle.pitch_io.specs.declared.net.NetTaken.TheVariants.{Got}
 use Rattle.pitch_io.specs.layers.Coming.{came}
 use Rattle.pitch_text.specs.declared.verb.Session.{Session}
 use Rattle.pitch_text.specs.declared.verb.Session.TheVariants.{Grp, Spin}
@@ -18,9 +18,9 @@ use Rattle.sending_end.specs.declared.session.Session.{Session as LinkSession}
 use Rattle.sending_end.specs.declared.session.Session.TheVariants.{Proxy, SpinServer as SpinLink}
 use Rattle.venue_end.specs.Came.{VenueCame, VenueState, on_gap_line}
 use Rattle.venue_end.specs.Sessions.{session_of}
-use Rattle.world_model.specs.Ends.{at_client, default_limits, server_cut, server_took, stands, the_session}
-use Rattle.world_model.specs.State.{State, up_taken, up_waits}
-use Rattle.world_model.specs.Verbs.{client_has, hears, hears_block, pumps, sent_whole, settled, venue_has}
+use Rattle.world_model.specs.Ends.{at_client, default_limits, server_took, stands, the_session}
+use Rattle.world_model.specs.State.{State, up_taken}
+use Rattle.world_model.specs.Verbs.{client_has, hears, hears_block, pumps, sent_whole, venue_has}
 use Rattle.world_model.proofs.Sessions.{pumped_is}
 use Rattle.net_edge.specs.Acting.{server_answers, server_takes}
 use Rattle.net_edge.specs.Due.{demo_unit}
@@ -28,12 +28,12 @@ use Rattle.net_edge.specs.declared.stage.Stage.{Stage}
 use Rattle.net_edge.specs.layers.Ends.{Becomes, HandsOut, HasCome, Holds, Replays, demo_client, demo_venue}
 use Rattle.net_edge.proofs.Taking.{pumped_replayed}
 
+pub becomes_then : {V : Type 0} {is : V → VenueState → Type 0} {a b c : Stage V} {f g : State → State} → Becomes is a b f → Becomes is b c g → Becomes is a c (λ w. g (f w))
+becomes_then {f = f} one two = record { holds = λ w h. two.holds (f w) (one.holds w h); ended = two.ended ∙ one.ended }
+
 module _ {V : Type 0} (is : V → VenueState → Type 0) where
   pub becomes_none : (e : Stage V) → Becomes is e e (λ w. w)
   becomes_none e = record { holds = λ w h. h; ended = refl }
-
-  pub becomes_then : (a b c : Stage V) (f g : State → State) → Becomes is a b f → Becomes is b c g → Becomes is a c (λ w. g (f w))
-  becomes_then a b c f g one two = record { holds = λ w h. two.holds (f w) (one.holds w h); ended = two.ended ∙ one.ended }
 
   -- ---- What comes to an end
   pub venue_becomes : (e : Stage V) (venue : V) (new : VenueCame) → HasCome is e.venue venue new → Becomes is e (record e { venue = venue }) (venue_has demo_unit default_limits new)
@@ -49,10 +49,6 @@ module _ {V : Type 0} (is : V → VenueState → Type 0) where
 
   pub client_stands : (e : Stage V) (w : State) → (h : Holds is e w) → SendingStands demo_client e.client h.came
   client_stands e w h = record { unit_is = h.client.unit_is; end_is = subst (EndIs demo_client e.client.end) h.came_is h.client.end_is }
-
-  -- what a contract says of all that came holds of the world
-  pub seen_client : (e : Stage V) (w : State) (P : EndState → Type 0) → Holds is e w → OfSending e.client (λ c before. (c ≡ demo_client) → P (end_after c before)) → P w.client
-  seen_client e w P h holds = subst P (sym h.came_is) (holds demo_client h.came (client_stands e w h) refl)
 
   pub client_becomes : (e : Stage V) (client : SendingEnd) (came : Came) → Passes e.client client came → Becomes is e (record e { client = client }) (client_has demo_unit default_limits came)
   client_becomes e client came passes = record {
@@ -119,24 +115,6 @@ module _ {V : Type 0} (is : V → VenueState → Type 0) where
       ended = refl;
     }
 
-  -- ---- What was cut is settled
-  pub settles : (session : Session) (e : Stage V) (venue : V) (there : Bool) → ((w : State) → Holds is e w → there ≡ stands session w.client) → there ≡ false → HasCome is e.venue venue (server_cut session) → Becomes is e (record e { venue = venue }) (settled demo_unit default_limits session)
-  settles session e venue there is_there gone comes = record {
-    holds = λ w h. subst (λ (b : Bool). Holds is (record e { venue = venue }) (cond b w (venue_has demo_unit default_limits (server_cut session) w))) (sym gone ∙ is_there w h) ((venue_becomes e venue (server_cut session) comes).holds w h);
-    ended = refl;
-  }
-
-  pub settles_not : (session : Session) (e : Stage V) (there : Bool) → ((w : State) → Holds is e w → there ≡ stands session w.client) → there ≡ true → Becomes is e e (settled demo_unit default_limits session)
-  settles_not session e there is_there stays = record {
-    holds = λ w h. subst (λ (b : Bool). Holds is e (cond b w (venue_has demo_unit default_limits (server_cut session) w))) (sym stays ∙ is_there w h) h;
-    ended = refl;
-  }
-
-  -- ---- What waits at the client's end
-  pub waits_there : (session : Session) (e : Stage V) (w : State) → Holds is e w → waiting (at_client session) e.client ≡ up_waits session w
-  waits_there Grp e w h = h.client.grp_up
-  waits_there Spin e w h = h.client.spin_up
-
   -- ---- What comes to a server
   module _ (session : Session) (bytes : List ℕ) (count : ℕ) where
     pub fed_becomes : (e : Stage V) (venue : V) → HasCome is e.venue venue (server_took session bytes) → Becomes is e (record e { venue = venue }) (server_answers session bytes (Got count))
@@ -171,12 +149,8 @@ module _ {V : Type 0} (is : V → VenueState → Type 0) where
   -- nothing came
   pub nothing_becomes : (session : Session) (into : List ℕ) (taken : NetTaken) (e : Stage V) → ((count : ℕ) → taken ≡ Got count → ⊥) → Becomes is e e (server_answers session (came taken into) taken)
   nothing_becomes session into (Got count) e none = absurd (none count refl)
-  nothing_becomes Grp into Quiet e none = becomes_none e
-  nothing_becomes Grp into End e none = becomes_none e
-  nothing_becomes Grp into Failed e none = becomes_none e
-  nothing_becomes Spin into Quiet e none = becomes_none e
-  nothing_becomes Spin into End e none = becomes_none e
-  nothing_becomes Spin into Failed e none = becomes_none e
+  nothing_becomes Grp into taken e none = becomes_none e
+  nothing_becomes Spin into taken e none = becomes_none e
 
   -- where the turn's calls are over
   pub serves_whole : (session : Session) (bytes : List ℕ) (taken : NetTaken) (goes_on : Bool) (old mid : Stage V) (venue : V) → session ≡ Spin → goes_on ≡ false → Becomes is old mid (server_answers session bytes taken)
@@ -184,7 +158,7 @@ module _ {V : Type 0} (is : V → VenueState → Type 0) where
   serves_whole session bytes taken goes_on old mid venue spin over first whole =
       subst (λ (x : Session). Becomes is old (record mid { venue = venue }) (server_takes x bytes taken goes_on)) (sym spin)
       (subst (λ (b : Bool). Becomes is old (record mid { venue = venue }) (server_takes Spin bytes taken b)) (sym over)
-      (becomes_then old mid (record mid { venue = venue }) (server_answers Spin bytes taken) (sent_whole demo_unit default_limits) (subst (λ (x : Session). Becomes is old mid (server_answers x bytes taken)) spin first) (whole_becomes mid venue whole)))
+      (becomes_then (subst (λ (x : Session). Becomes is old mid (server_answers x bytes taken)) spin first) (whole_becomes mid venue whole)))
 
   -- what is sent to a server, some of it put
   pub taken_becomes : (session : Session) (count : ℕ) (e : Stage V) (client : SendingEnd) → waiting (at_client session) client ≡ drop count (waiting (at_client session) e.client)
@@ -192,12 +166,6 @@ module _ {V : Type 0} (is : V → VenueState → Type 0) where
       → Becomes is e (record e { client = client }) (up_taken session count)
   taken_becomes session count e client left others stands = by session left others
     where
-      apart : ◌≡◌ {A = LinkSession} SpinLink Proxy → ⊥
-      apart e = cc
-
-      apart_too : ◌≡◌ {A = LinkSession} Proxy SpinLink → ⊥
-      apart_too e = cc
-
       held : (w : State) → Holds is e w → EndIs demo_client client.end w.client
       held w h = subst (EndIs demo_client client.end) (sym h.came_is) (stands demo_client h.came (client_stands e w h)).end_is
 
@@ -205,7 +173,7 @@ module _ {V : Type 0} (is : V → VenueState → Type 0) where
       by Grp left others = record {
         holds = λ w h. record {
           venue = h.venue;
-          client = record { unit_is = (stands demo_client h.came (client_stands e w h)).unit_is; end_is = held w h; grp_up = left ∙ ap (drop count) h.client.grp_up; spin_up = others SpinLink apart ∙ h.client.spin_up };
+          client = record { unit_is = (stands demo_client h.came (client_stands e w h)).unit_is; end_is = held w h; grp_up = left ∙ ap (drop count) h.client.grp_up; spin_up = others SpinLink (λ e. cc) ∙ h.client.spin_up };
           came = h.came;
           came_is = h.came_is;
         };
@@ -214,7 +182,7 @@ module _ {V : Type 0} (is : V → VenueState → Type 0) where
       by Spin left others = record {
         holds = λ w h. record {
           venue = h.venue;
-          client = record { unit_is = (stands demo_client h.came (client_stands e w h)).unit_is; end_is = held w h; grp_up = others Proxy apart_too ∙ h.client.grp_up; spin_up = left ∙ ap (drop count) h.client.spin_up };
+          client = record { unit_is = (stands demo_client h.came (client_stands e w h)).unit_is; end_is = held w h; grp_up = others Proxy (λ e. cc) ∙ h.client.grp_up; spin_up = left ∙ ap (drop count) h.client.spin_up };
           came = h.came;
           came_is = h.came_is;
         };
@@ -234,12 +202,8 @@ whole_replays w becomes lines lines' is = record { more = is.more; hands = is.ha
 
 pub nothing_replays : (session : Session) (into : List ℕ) (taken : NetTaken) (w : State) (lines : List (List ℕ)) → ((count : ℕ) → taken ≡ Got count → ⊥) → Replays w (server_answers session (came taken into) taken) lines lines
 nothing_replays session into (Got count) w lines none = absurd (none count refl)
-nothing_replays Grp into Quiet w lines none = none_replays w (λ v. v) lines refl
-nothing_replays Grp into End w lines none = none_replays w (λ v. v) lines refl
-nothing_replays Grp into Failed w lines none = none_replays w (λ v. v) lines refl
-nothing_replays Spin into Quiet w lines none = none_replays w (λ v. v) lines refl
-nothing_replays Spin into End w lines none = none_replays w (λ v. v) lines refl
-nothing_replays Spin into Failed w lines none = none_replays w (λ v. v) lines refl
+nothing_replays Grp into taken w lines none = none_replays w (λ v. v) lines refl
+nothing_replays Spin into taken w lines none = none_replays w (λ v. v) lines refl
 
 pub serve_replays : (session : Session) (bytes : List ℕ) (taken : NetTaken) (goes_on : Bool) (w : State) (lines lines' : List (List ℕ)) → session ≡ Spin → goes_on ≡ false → Replays w (server_answers session bytes taken) lines lines' → Replays w (server_takes session bytes taken goes_on) lines lines'
 serve_replays session bytes taken goes_on w lines lines' spin over first =

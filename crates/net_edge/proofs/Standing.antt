@@ -28,7 +28,7 @@ use Rattle.net_edge.specs.Steps.{Step, Did, Beat, Turn}
 use Rattle.net_edge.specs.layers.Ends.{demo_venue}
 use Rattle.net_edge.specs.layers.Playing.{IsAllSent, Plays}
 use Rattle.net_edge.proofs.Keeping.{Keeps, heard_keeps, keeps_none, keeps_then, put_keeps, settled_keeps, takes_keep}
-use Rattle.net_edge.proofs.Scenes.{at_turn, at_world, on_turn, on_world}
+use Rattle.net_edge.proofs.Scenes.{at_world, on_world}
 use Rattle.net_edge.proofs.Taking.{IsAlone}
 
 -- ---- A message more
@@ -67,19 +67,8 @@ module _ (s : Setting) (few : s.count ≤ 1000) where
             all_sent = is.all_sent ∙ ap (λ (n : ℕ). length (plan s.number demo_unit n)) same;
           }
 
-  commanded_alone : (w : State) (o : Option VenueError) (turn : ℕ) → length w.venue.proxies ≤ 1 → length w.venue.spins ≤ 1
-      → (length (commanded_on o (plan_command s.number demo_unit turn) w.venue).proxies ≤ 1) × (length (commanded_on o (plan_command s.number demo_unit turn) w.venue).spins ≤ 1)
-  commanded_alone w (Some error) turn proxies spins = (proxies, spins)
-  commanded_alone w None turn proxies spins = (proxies, spins)
-
   pub published_alone : (turn : ℕ) (w : State) → IsAlone w → IsAlone (published s turn w)
-  published_alone turn w is = by (nat_le turn s.count)
-    where
-      by : (b : Bool) → IsAlone (cond b (done_with verbs.Flush (done_with (verbs.Command (plan_command s.number demo_unit turn)) w)) w)
-      by true =
-          let both = commanded_alone w (refusal w.venue.messages (plan_command s.number demo_unit turn)) turn is.proxies is.spins in
-          record { proxies = both.0; spins = both.1 }
-      by false = is
+  published_alone turn w is = record { proxies = grind (arith, is.proxies); spins = grind (arith, is.spins) }
 
   pub connected_sent : IsAllSent s 0 connected
   connected_sent =
@@ -118,11 +107,7 @@ tick_is w =
 
 -- ---- Along a run
 pub called_turn : (call : Call) (now : Scene) → (called call now).turn ≡ now.turn
-called_turn (Begin answer) now = refl
-called_turn (Send line datagram answer) now = on_turn now (record (line_in line now) { sent = (line_in line now).sent ++ datagram ∷ [] }) line
-called_turn (Next line room bytes answer) now = on_turn now (answered_on line bytes answer now) line
-called_turn (Put at piece answer) now = at_turn now (record (at_end at now) { put = (at_end at now).put ++ bytes_put answer piece }) at
-called_turn (Take at room bytes answer) now = at_turn now (end_took bytes answer (at_end at now)) at
+called_turn call now = grind arith
 
 pub called_keeps : (call : Call) (now : Scene) → Keeps now.world (called call now).world
 called_keeps (Begin answer) now = keeps_none now.world

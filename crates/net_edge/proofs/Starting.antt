@@ -1,8 +1,6 @@
 -- How a run and a turn start, and where a run stops.
-use Rattle.std.proofs.Common.{◌≡◌, ◌≤◌, ◌<◌, ◌+◌, ◌-◌, ◌⊎◌, inl, inr, ℕ, suc, Bool, true, false, cond, List, [], length, Option, None, Some, refl, sym, ap, ◌∙◌, subst, arith}
+use Rattle.std.proofs.Common.{◌≡◌, ◌≤◌, ◌<◌, ◌+◌, ◌-◌, ◌⊎◌, inl, inr, ℕ, suc, List, [], length, Option, None, Some, refl, sym, ap, ◌∙◌, subst, arith}
 use Rattle.std.proofs.Math.Seq.{drop-length}
-use Rattle.std.specs.Prelude.{nat_le}
-use Rattle.pitch_io.specs.declared.line.Line.TheVariants.{A, B, Gap}
 use Rattle.pitch_io.specs.declared.net.LinkEnd.{LinkEnd}
 use Rattle.pitch_io.specs.declared.net.LinkEnd.TheVariants.{GrpClient, GrpServer, SpinClient, SpinServer}
 use Rattle.pitch_io.specs.declared.net.NetDone.TheVariants.{Done}
@@ -10,21 +8,17 @@ use Rattle.pitch_io.specs.Nets.{Call, Begin, NetDoneFailed}
 use Rattle.pitch_io.specs.layers.Coming.{ListsCall}
 use Rattle.pitch_model.specs.declared.status.Status.{Status}
 use Rattle.pitch_model.specs.declared.status.Status.TheVariants.{Current}
-use Rattle.pitch_text.specs.declared.verb.Verb.TheVariants as verbs
 use Rattle.sending_end.specs.Stands.{NoneWaits, SendingStands}
-use Rattle.venue_core.specs.Plan.{plan_command}
-use Rattle.venue_core.specs.Refusals.{refusal}
-use Rattle.venue_core.specs.declared.error.VenueError.{VenueError}
-use Rattle.venue_end.specs.Came.{VenueState, commanded_on, nothing_came}
+use Rattle.venue_end.specs.Came.{VenueState, nothing_came}
 use Rattle.world_model.specs.State.{State, start}
 use Rattle.net_edge.specs.Acting.{next_turn, put_at}
 use Rattle.net_edge.specs.Demo.{IsLast}
-use Rattle.net_edge.specs.Due.{Setting, demo_unit}
-use Rattle.net_edge.specs.Scene.{Scene, connected, done_with, first_scene, published, waits_at}
+use Rattle.net_edge.specs.Due.{Setting}
+use Rattle.net_edge.specs.Scene.{Scene, connected, first_scene, published, waits_at}
 use Rattle.net_edge.specs.Turns.{MayGoOn, client_status}
 use Rattle.net_edge.specs.declared.stage.Stage.{Stage}
 use Rattle.net_edge.specs.layers.Ends.{Becomes, Holds, demo_client, no_ends}
-use Rattle.net_edge.specs.layers.Playing.{IsAllSent, IsSentTo, IsUncalled, NothingWaits, Plays, TheEnd, TheLine, TurnBegins, TurnEnds, all_put_at, calls_before}
+use Rattle.net_edge.specs.layers.Playing.{IsAllSent, IsSentTo, IsUncalled, NothingWaits, Plays, TurnBegins, TurnEnds, all_put_at, calls_before}
 use Rattle.net_edge.proofs.Runs.{play_turn}
 use Rattle.net_edge.proofs.Standing.{connected_sent, stood_at}
 
@@ -40,41 +34,10 @@ pub record Publishes (w v : State) : Type 0 where
   pub seconds : v.venue.spent.now ≡ w.venue.spent.now
 
 pub publishes : (s : Setting) (turn : ℕ) (w : State) → Publishes w (published s turn w)
-publishes s turn w = by (nat_le turn s.count)
+publishes s turn w = record { waits = λ at. waits at; replayed = grind arith; seconds = grind arith }
   where
-    accepted : State
-    accepted = done_with verbs.Flush (done_with (verbs.Command (plan_command s.number demo_unit turn)) w)
-
-    with_venue : VenueState → State
-    with_venue v = record w { venue = v }
-
-    seconds : (o : Option VenueError) → (commanded_on o (plan_command s.number demo_unit turn) w.venue).spent.now ≡ w.venue.spent.now
-    seconds None = refl
-    seconds (Some error) = refl
-
-    waits : (o : Option VenueError) (at : LinkEnd) → waits_at at (with_venue (commanded_on o (plan_command s.number demo_unit turn) w.venue)) ≡ waits_at at w
-    waits None GrpClient = refl
-    waits None GrpServer = refl
-    waits None SpinClient = refl
-    waits None SpinServer = refl
-    waits (Some error) GrpClient = refl
-    waits (Some error) GrpServer = refl
-    waits (Some error) SpinClient = refl
-    waits (Some error) SpinServer = refl
-
-    flushed : (at : LinkEnd) → waits_at at accepted ≡ waits_at at (with_venue (commanded_on (refusal w.venue.messages (plan_command s.number demo_unit turn)) (plan_command s.number demo_unit turn) w.venue))
-    flushed GrpClient = refl
-    flushed GrpServer = refl
-    flushed SpinClient = refl
-    flushed SpinServer = refl
-
-    by : (b : Bool) → Publishes w (cond b (done_with verbs.Flush (done_with (verbs.Command (plan_command s.number demo_unit turn)) w)) w)
-    by true = record {
-      waits = λ at. flushed at ∙ waits (refusal w.venue.messages (plan_command s.number demo_unit turn)) at;
-      replayed = refl;
-      seconds = seconds (refusal w.venue.messages (plan_command s.number demo_unit turn));
-    }
-    by false = record { waits = λ at. refl; replayed = refl; seconds = refl }
+    waits : (at : LinkEnd) → waits_at at (published s turn w) ≡ waits_at at w
+    waits at = grind arith
 
 -- ---- A stage to which nothing came
 pub stage_first : {V : Type 0} (is : V → VenueState → Type 0) (e : Stage V) → is e.venue nothing_came → SendingStands demo_client e.client [] → NoneWaits e.client → Holds is e start
@@ -102,12 +65,7 @@ abbrev pub logged_in : Setting → Scene
 logged_in s = all_put_at SpinClient (all_put_at GrpClient (first_scene s))
 
 logged_world : (s : Setting) → (logged_in s).world ≡ published s 1 (both_put connected)
-logged_world s = by (nat_le 1 s.count)
-  where
-    by : (b : Bool) → both_put (cond b (done_with verbs.Flush (done_with (verbs.Command (plan_command s.number demo_unit 1)) connected)) connected)
-        ≡ cond b (done_with verbs.Flush (done_with (verbs.Command (plan_command s.number demo_unit 1)) (both_put connected))) (both_put connected)
-    by true = refl
-    by false = refl
+logged_world s = grind arith
 
 none_waits : NothingWaits (both_put connected)
 none_waits GrpClient = drop-length (waits_at GrpClient connected)
@@ -135,13 +93,7 @@ module _ {V : Type 0} (is : V → VenueState → Type 0) (s : Setting) (few : s.
       }
     where
       uncalled : IsUncalled (logged_in s)
-      uncalled (TheLine A) = refl
-      uncalled (TheLine B) = refl
-      uncalled (TheLine Gap) = refl
-      uncalled (TheEnd GrpClient) = refl
-      uncalled (TheEnd GrpServer) = refl
-      uncalled (TheEnd SpinClient) = refl
-      uncalled (TheEnd SpinServer) = refl
+      uncalled place = grind arith
 
   -- the net was set up, and both logins were put
   pub logs_in : (c0 c1 c2 c3 : Option (List Call)) (one two three : Stage V) → ListsCall c0 c1 (Begin Done) → Becomes is one two grp_put → Becomes is two three (λ w. put_at SpinClient (length (waits_at SpinClient w)) w)
@@ -179,13 +131,7 @@ module _ {V : Type 0} (is : V → VenueState → Type 0) (s : Setting) (few : s.
       }
     where
       uncalled : IsUncalled (next_turn s e.now)
-      uncalled (TheLine A) = refl
-      uncalled (TheLine B) = refl
-      uncalled (TheLine Gap) = refl
-      uncalled (TheEnd GrpClient) = refl
-      uncalled (TheEnd GrpServer) = refl
-      uncalled (TheEnd SpinClient) = refl
-      uncalled (TheEnd SpinServer) = refl
+      uncalled place = grind arith
 
 -- ---- The end
 -- a run goes on after a turn with which it does not end

@@ -5,7 +5,7 @@ use Rattle.pitch_io.specs.declared.line.Line.{Line}
 use Rattle.pitch_io.specs.declared.net.LinkEnd.{LinkEnd}
 use Rattle.pitch_io.specs.declared.net.LinkEnd.TheVariants.{GrpClient, GrpServer, SpinClient, SpinServer}
 use Rattle.pitch_io.specs.declared.net.NetTaken.{NetTaken}
-use Rattle.pitch_io.specs.declared.net.NetTaken.TheVariants.{Got, Quiet, End, Failed}
+use Rattle.pitch_io.specs.declared.net.NetTaken.TheVariants.{Got, End}
 use Rattle.pitch_text.specs.declared.verb.Session.{Session as Kind}
 use Rattle.pitch_text.specs.declared.verb.Session.TheVariants.{Grp, Spin}
 use Rattle.session_ends.specs.Events.{Event}
@@ -45,14 +45,9 @@ kept_none (Some events) = refl
 
 -- ---- A cut
 cut_here : (session : Kind) (other : LinkEnd) (w : State) → IsAlone w → waits_at other w ≡ [] → waits_at other (venue_has demo_unit default_limits (server_cut session) w) ≡ []
-cut_here Grp GrpClient w alone none = none
 cut_here Grp GrpServer w alone none = cut_waits the_session w.venue.proxies alone.proxies
-cut_here Grp SpinClient w alone none = none
-cut_here Grp SpinServer w alone none = none
-cut_here Spin GrpClient w alone none = none
-cut_here Spin GrpServer w alone none = none
-cut_here Spin SpinClient w alone none = none
 cut_here Spin SpinServer w alone none = cut_waits the_session w.venue.spins alone.spins
+cut_here session other w alone none = none
 
 settled_waits : (session : Kind) (other : LinkEnd) (w : State) → IsAlone w → waits_at other w ≡ [] → waits_at other (settled demo_unit default_limits session w) ≡ []
 settled_waits session other w alone none = by (stands session w.client)
@@ -64,57 +59,38 @@ settled_waits session other w alone none = by (stands session w.client)
 -- ---- At a client's end
 took_waits : (session : Kind) (bytes : List ℕ) (other : LinkEnd) (w : State) → waits_at other w ≡ [] → waits_at other (client_has demo_unit default_limits (took (at_client session) bytes) w) ≡ []
 took_waits Grp bytes GrpClient w none = ap (λ (l : List ℕ). kept_for (end_step demo_client (took (at_client Grp) bytes) w.client).grp (l ++ [])) none ∙ kept_none _
-took_waits Grp bytes GrpServer w none = none
 took_waits Grp bytes SpinClient w none = ap (λ (l : List ℕ). kept_for (end_step demo_client (took (at_client Grp) bytes) w.client).spin (l ++ [])) none ∙ kept_none _
-took_waits Grp bytes SpinServer w none = none
 took_waits Spin bytes GrpClient w none = ap (λ (l : List ℕ). kept_for (end_step demo_client (took (at_client Spin) bytes) w.client).grp (l ++ [])) none ∙ kept_none _
-took_waits Spin bytes GrpServer w none = none
 took_waits Spin bytes SpinClient w none = ap (λ (l : List ℕ). kept_for (end_step demo_client (took (at_client Spin) bytes) w.client).spin (l ++ [])) none ∙ kept_none _
-took_waits Spin bytes SpinServer w none = none
+took_waits session bytes other w none = none
 
 ended_waits : (session : Kind) (other : LinkEnd) (w : State) → waits_at other w ≡ [] → waits_at other (client_has demo_unit default_limits (ended (at_client session)) w) ≡ []
 ended_waits Grp GrpClient w none = refl
-ended_waits Grp GrpServer w none = none
-ended_waits Grp SpinClient w none = ap (λ (l : List ℕ). kept_for w.client.spin (l ++ [])) none ∙ kept_none w.client.spin
-ended_waits Grp SpinServer w none = none
-ended_waits Spin GrpClient w none = ap (λ (l : List ℕ). kept_for w.client.grp (l ++ [])) none ∙ kept_none w.client.grp
-ended_waits Spin GrpServer w none = none
 ended_waits Spin SpinClient w none = refl
-ended_waits Spin SpinServer w none = none
+ended_waits Grp SpinClient w none = ap (λ (l : List ℕ). kept_for w.client.spin (l ++ [])) none ∙ kept_none w.client.spin
+ended_waits Spin GrpClient w none = ap (λ (l : List ℕ). kept_for w.client.grp (l ++ [])) none ∙ kept_none w.client.grp
+ended_waits session other w none = none
 
 link_waits : (session : Kind) (bytes : List ℕ) (answer : NetTaken) (other : LinkEnd) (w : State) → IsAlone w → waits_at other w ≡ [] → waits_at other (link_takes session bytes answer w) ≡ []
 link_waits session bytes (Got count) other w alone none =
     let v : State = client_has demo_unit default_limits (took (at_client session) bytes) w in
     settled_waits session other v (record { proxies = alone.proxies; spins = alone.spins }) (took_waits session bytes other w none)
 link_waits session bytes End other w alone none = ended_waits session other (venue_has demo_unit default_limits (server_cut session) w) (cut_here session other w alone none)
-link_waits session bytes Quiet other w alone none = none
-link_waits session bytes Failed other w alone none = none
+link_waits session bytes answer other w alone none = none
 
 -- ---- At a server's end
 proxy_waits : (bytes : List ℕ) (answer : NetTaken) (other : LinkEnd) (w : State) → (other ≡ GrpServer → ⊥) → waits_at other (server_answers Grp bytes answer w) ≡ waits_at other w
-proxy_waits bytes (Got count) GrpClient w apart = refl
 proxy_waits bytes (Got count) GrpServer w apart = absurd (apart refl)
-proxy_waits bytes (Got count) SpinClient w apart = refl
-proxy_waits bytes (Got count) SpinServer w apart = refl
-proxy_waits bytes Quiet other w apart = refl
-proxy_waits bytes End other w apart = refl
-proxy_waits bytes Failed other w apart = refl
+proxy_waits bytes answer other w apart = refl
 
 spin_waits : (bytes : List ℕ) (answer : NetTaken) (other : LinkEnd) (w : State) → (other ≡ SpinServer → ⊥) → waits_at other (server_answers Spin bytes answer w) ≡ waits_at other w
-spin_waits bytes (Got count) GrpClient w apart = refl
-spin_waits bytes (Got count) GrpServer w apart = refl
-spin_waits bytes (Got count) SpinClient w apart = refl
 spin_waits bytes (Got count) SpinServer w apart = absurd (apart refl)
-spin_waits bytes Quiet other w apart = refl
-spin_waits bytes End other w apart = refl
-spin_waits bytes Failed other w apart = refl
+spin_waits bytes answer other w apart = refl
 
 pumped_waits : (n : ℕ) (other : LinkEnd) (w : State) → (other ≡ SpinServer → ⊥) → waits_at other (pumped demo_unit default_limits n w) ≡ waits_at other w
 pumped_waits zero other w apart = refl
-pumped_waits (suc n) GrpClient w apart = pumped_waits n GrpClient w apart
-pumped_waits (suc n) GrpServer w apart = pumped_waits n GrpServer w apart
-pumped_waits (suc n) SpinClient w apart = pumped_waits n SpinClient w apart
 pumped_waits (suc n) SpinServer w apart = absurd (apart refl)
+pumped_waits (suc n) other w apart = pumped_waits n other w apart
 
 sent_waits : (bytes : List ℕ) (answer : NetTaken) (goes_on : Bool) (other : LinkEnd) (w : State) → (other ≡ SpinServer → ⊥) → waits_at other (server_takes Spin bytes answer goes_on w) ≡ waits_at other w
 sent_waits bytes answer true other w apart = spin_waits bytes answer other w apart
@@ -130,20 +106,14 @@ takes_wait SpinClient other bytes answer goes_on w alone apart none = link_waits
 takes_wait SpinServer other bytes answer goes_on w alone apart none = sent_waits bytes answer goes_on other w apart ∙ none
 
 pub put_replayed : (at : LinkEnd) (n : ℕ) (w : State) → (put_at at n w).replayed ≡ w.replayed
-put_replayed GrpClient n w = refl
-put_replayed GrpServer n w = refl
-put_replayed SpinClient n w = refl
-put_replayed SpinServer n w = refl
+put_replayed at n w = grind arith
 
 pub pumped_replayed : (n : ℕ) (w : State) → (pumped demo_unit default_limits n w).replayed ≡ w.replayed
 pumped_replayed zero w = refl
 pumped_replayed (suc n) w = pumped_replayed n w
 
 answered_replayed : (bytes : List ℕ) (answer : NetTaken) (w : State) → (server_answers Spin bytes answer w).replayed ≡ w.replayed
-answered_replayed bytes (Got count) w = refl
-answered_replayed bytes Quiet w = refl
-answered_replayed bytes End w = refl
-answered_replayed bytes Failed w = refl
+answered_replayed bytes answer w = grind arith
 
 pub served_replayed : (bytes : List ℕ) (answer : NetTaken) (goes_on : Bool) (w : State) → (server_takes Spin bytes answer goes_on w).replayed ≡ w.replayed
 served_replayed bytes answer true w = answered_replayed bytes answer w
@@ -151,19 +121,22 @@ served_replayed bytes answer false w =
     let v : State = server_answers Spin bytes answer w in
     pumped_replayed (pumps demo_venue (session_of the_session v.venue.spins)) v ∙ answered_replayed bytes answer w
 
+pub settled_replayed : (session : Kind) (w : State) → (settled demo_unit default_limits session w).replayed ≡ w.replayed
+settled_replayed session w = grind arith
+
+pub link_replayed : (session : Kind) (bytes : List ℕ) (answer : NetTaken) (w : State) → (link_takes session bytes answer w).replayed ≡ w.replayed
+link_replayed session bytes (Got count) w = settled_replayed session (client_has demo_unit default_limits (took (at_client session) bytes) w)
+link_replayed session bytes answer w = refl
+
 -- ---- What comes on a line
 hears_waits : (at : LinkEnd) (line : Line) (blocks : List Block) (w : State) → waits_at at (hears demo_unit default_limits line blocks w) ≡ waits_at at w
 hears_waits at line [] w = refl
 hears_waits GrpClient line (block ∷ blocks) w = hears_waits GrpClient line blocks (hears_block demo_unit default_limits line block w)
-hears_waits GrpServer line (block ∷ blocks) w = hears_waits GrpServer line blocks (hears_block demo_unit default_limits line block w)
-hears_waits SpinClient line (block ∷ blocks) w = hears_waits SpinClient line blocks (hears_block demo_unit default_limits line block w)
-hears_waits SpinServer line (block ∷ blocks) w = hears_waits SpinServer line blocks (hears_block demo_unit default_limits line block w)
+hears_waits at line (block ∷ blocks) w = hears_waits at line blocks (hears_block demo_unit default_limits line block w)
 
 pub heard_waits : (at : LinkEnd) (line : Line) (bytes : List ℕ) (answer : NetTaken) (w : State) → waits_at at (heard_by line bytes answer w) ≡ waits_at at w
 heard_waits at line bytes (Got count) w = hears_waits at line (of_unit demo_unit (blocks_of bytes)) w
-heard_waits at line bytes Quiet w = refl
-heard_waits at line bytes End w = refl
-heard_waits at line bytes Failed w = refl
+heard_waits at line bytes answer w = refl
 
 hears_replayed : (line : Line) (blocks : List Block) (w : State) → (hears demo_unit default_limits line blocks w).replayed ≡ w.replayed
 hears_replayed line [] w = refl
@@ -171,6 +144,4 @@ hears_replayed line (block ∷ blocks) w = hears_replayed line blocks (hears_blo
 
 pub heard_replayed : (line : Line) (bytes : List ℕ) (answer : NetTaken) (w : State) → (heard_by line bytes answer w).replayed ≡ w.replayed
 heard_replayed line bytes (Got count) w = hears_replayed line (of_unit demo_unit (blocks_of bytes)) w
-heard_replayed line bytes Quiet w = refl
-heard_replayed line bytes End w = refl
-heard_replayed line bytes Failed w = refl
+heard_replayed line bytes answer w = refl

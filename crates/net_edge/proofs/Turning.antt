@@ -1,8 +1,8 @@
 -- The parts of a turn: what stands before each and after it.
-use Rattle.std.proofs.Common.{◌≡◌, ◌≤◌, ◌+◌, ◌-◌, ℕ, zero, suc, Bool, true, false, cond, List, [], ◌∷◌, ◌++◌, length, drop, Option, refl, sym, ap, ◌∙◌, subst, arith, append_assoc}
-use Rattle.std.specs.List.{AllByRecursion}
+use Rattle.std.proofs.Common.{◌≡◌, inl, inr, ◌≤◌, ◌<◌, ◌+◌, ◌-◌, ℕ, zero, suc, Bool, true, false, cond, List, [], ◌∷◌, ◌++◌, length, get_or, Option, refl, sym, ap, ◌∙◌, subst, arith, append_assoc}
 use Rattle.std.proofs.lemmas.List.{append-nil}
 use Rattle.std.proofs.Math.Seq.{drop-length}
+use Rattle.std.proofs.lemmas.Bool.{cases_eq}
 use Rattle.pitch_io.specs.declared.line.Line.{Line}
 use Rattle.pitch_io.specs.declared.line.Line.TheVariants.{A, B, Gap}
 use Rattle.pitch_io.specs.declared.net.LinkEnd.{LinkEnd}
@@ -13,9 +13,10 @@ use Rattle.world_model.specs.State.{State}
 use Rattle.net_edge.specs.Acting.{all_tick, is_group_open, put_at, sent_on}
 use Rattle.net_edge.specs.Due.{Setting, beat, beats, copies, due, is_tenth, ticks}
 use Rattle.net_edge.specs.Scene.{Scene, line_in, waits_at}
-use Rattle.net_edge.specs.Turns.{IsEndOver}
 use Rattle.net_edge.specs.declared.stage.Stage.{Stage}
-use Rattle.net_edge.specs.layers.Playing.{Asks, AsksAll, DemoAt, IsPlaceOver, IsSentTo, IsUncalled, NothingWaits, Place, TheEnd, TheLine, TurnEnds, TurnGoes, after_beat, after_due_beat, answers_of}
+use Rattle.net_edge.specs.declared.turn.Place.{Place}
+use Rattle.net_edge.specs.declared.turn.Place.TheVariants.{Line as TheLine, End as TheEnd}
+use Rattle.net_edge.specs.layers.Playing.{Asks, AsksAll, DemoAt, IsPlaceOver, IsSentTo, IsUncalled, NothingWaits, TurnEnds, TurnGoes, after_beat, after_due_beat, answers_of}
 use Rattle.net_edge.proofs.Keeping.{Keeps, keeps_then, put_keeps}
 use Rattle.net_edge.proofs.Standing.{tick_is}
 use Rattle.net_edge.proofs.Waits.{others_wait, waits_left}
@@ -94,133 +95,91 @@ module _ (s : Setting) (now : Scene) (some : 1 ≤ now.turn) (sent : IsSentTo s 
 
 -- no `next` and no `take` was called
 answers_still : (s : Setting) (turn : ℕ) (now : Scene) (place : Place) → answers_of place (after_due_beat s (copied s turn now)) ≡ answers_of place now
-answers_still s turn now place = by (is_tenth now.turn) place
-  where
-    by : (b : Bool) (place : Place) → answers_of place (cond b (after_beat s (copied s turn now)) (copied s turn now)) ≡ answers_of place now
-    by true (TheLine A) = refl
-    by true (TheLine B) = refl
-    by true (TheLine Gap) = refl
-    by true (TheEnd GrpClient) = refl
-    by true (TheEnd GrpServer) = refl
-    by true (TheEnd SpinClient) = refl
-    by true (TheEnd SpinServer) = refl
-    by false (TheLine A) = refl
-    by false (TheLine B) = refl
-    by false (TheLine Gap) = refl
-    by false (TheEnd GrpClient) = refl
-    by false (TheEnd GrpServer) = refl
-    by false (TheEnd SpinClient) = refl
-    by false (TheEnd SpinServer) = refl
+answers_still s turn now place = grind arith
 
 pub uncalled_then : (s : Setting) (turn : ℕ) (now : Scene) → IsUncalled now → IsUncalled (after_due_beat s (copied s turn now))
 uncalled_then s turn now none place = answers_still s turn now place ∙ none place
 
 pub turn_then : (s : Setting) (turn : ℕ) (now : Scene) → (after_due_beat s (copied s turn now)).turn ≡ now.turn
-turn_then s turn now = by (is_tenth now.turn)
-  where
-    by : (b : Bool) → (cond b (after_beat s (copied s turn now)) (copied s turn now)).turn ≡ now.turn
-    by true = refl
-    by false = refl
+turn_then s turn now = grind arith
 
 -- ---- What was asked in a turn, and what is still to be
--- what a turn asks, in its order
+-- the places in the order in which a turn asks them
+abbrev pub number_of : Place → ℕ
+number_of (TheEnd GrpServer) = 0
+number_of (TheEnd SpinServer) = 1
+number_of (TheLine A) = 2
+number_of (TheLine B) = 3
+number_of (TheLine Gap) = 4
+number_of (TheEnd GrpClient) = 5
+number_of (TheEnd SpinClient) = 6
+
 abbrev places : List Place
 places = TheEnd GrpServer ∷ TheEnd SpinServer ∷ TheLine A ∷ TheLine B ∷ TheLine Gap ∷ TheEnd GrpClient ∷ TheEnd SpinClient ∷ []
 
--- and the last first
-abbrev backwards : List Place
-backwards = TheEnd SpinClient ∷ TheEnd GrpClient ∷ TheLine Gap ∷ TheLine B ∷ TheLine A ∷ TheEnd SpinServer ∷ TheEnd GrpServer ∷ []
+same_number : (p q : Place) → number_of p ≡ number_of q → p ≡ q
+same_number p q same = grind arith
 
--- none of these is that
-abbrev AreApart : Place → List Place → Type 0
-AreApart place places = AllByRecursion (λ (other : Place). other ≡ place → ⊥) places
+numbered : (k : ℕ) (d : Place) → k < 7 → number_of (get_or places k d) ≡ k
+numbered k d few = grind arith
+
+below_seven : (place : Place) → number_of place < 7
+below_seven place = grind arith
 
 stays_over : (other place : Place) (now after : Scene) → Asks place now after → (other ≡ place → ⊥) → IsPlaceOver other now → IsPlaceOver other after
-stays_over (TheLine line) place now after asks apart over = ap is_group_open (asks.others (TheLine line) apart) ∙ over
-stays_over (TheEnd at) place now after asks apart over = λ opened. asks.done at (over (ap is_group_open (sym (asks.others (TheEnd at) apart)) ∙ opened))
-
-all_stay_over : (places : List Place) (place : Place) (now after : Scene) → Asks place now after → AreApart place places → AllByRecursion (λ (p : Place). IsPlaceOver p now) places → AllByRecursion (λ (p : Place). IsPlaceOver p after) places
-all_stay_over [] place now after asks apart over = tt
-all_stay_over (p ∷ places) place now after asks apart over = (stays_over p place now after asks apart.0 over.0, all_stay_over places place now after asks apart.1 over.1)
-
-all_stay_uncalled : (places : List Place) (place : Place) (now after : Scene) → Asks place now after → AreApart place places → AllByRecursion (λ (p : Place). answers_of p now ≡ []) places → AllByRecursion (λ (p : Place). answers_of p after ≡ []) places
-all_stay_uncalled [] place now after asks apart none = tt
-all_stay_uncalled (p ∷ places) place now after asks apart none = (asks.others p apart.0 ∙ none.0, all_stay_uncalled places place now after asks apart.1 none.1)
+stays_over (TheLine line) place now after asks apart over opened = over (ap is_group_open (sym (asks.others (TheLine line) apart)) ∙ opened)
+stays_over (TheEnd at) place now after asks apart over opened = asks.done at (over (ap is_group_open (sym (asks.others (TheEnd at) apart)) ∙ opened))
 
 module _ {V : Type 0} (is : V → VenueState → Type 0) (s : Setting) (base : List Call) where
-  -- in a turn these places were asked, and those are still to be
-  pub record InTurn (calls : Option (List Call)) (stage : Stage V) (turn : ℕ) (asked left : List Place) : Type 0 where
+  -- in a turn so many places were asked
+  pub record InTurn (calls : Option (List Call)) (stage : Stage V) (turn count : ℕ) : Type 0 where
     pub now : Scene
     pub at : DemoAt is s base calls stage now
     pub turn_is : now.turn ≡ turn
     pub sent : IsSentTo s turn now
-    pub over : AllByRecursion (λ (p : Place). IsPlaceOver p now) asked
-    pub uncalled : AllByRecursion (λ (p : Place). answers_of p now ≡ []) left
+    pub over : (place : Place) → number_of place < count → IsPlaceOver place now
+    pub uncalled : (place : Place) → count ≤ number_of place → answers_of place now ≡ []
 
-  -- so many of the places were asked
-  abbrev Asked : ℕ → Option (List Call) → Stage V → ℕ → Type 0
-  Asked k calls stage turn = InTurn calls stage turn (drop (7 - k) backwards) (drop k places)
-
-  pub in_turn : (calls : Option (List Call)) (stage : Stage V) (turn : ℕ) → TurnGoes is s base calls stage turn → Asked 0 calls stage turn
+  pub in_turn : (calls : Option (List Call)) (stage : Stage V) (turn : ℕ) → TurnGoes is s base calls stage turn → InTurn calls stage turn 0
   in_turn calls stage turn goes = record {
     now = goes.now;
     at = goes.at;
     turn_is = goes.turn_is;
     sent = goes.sent;
-    over = tt;
-    uncalled = (goes.uncalled (TheEnd GrpServer), (goes.uncalled (TheEnd SpinServer), (goes.uncalled (TheLine A), (goes.uncalled (TheLine B), (goes.uncalled (TheLine Gap), (goes.uncalled (TheEnd GrpClient), (goes.uncalled (TheEnd SpinClient), tt)))))));
+    over = λ place none. absurd (omega (arith, none));
+    uncalled = λ place all. goes.uncalled place;
   }
 
   -- one place more
-  asks_next : (place : Place) (asked left : List Place) (turn : ℕ) (c0 c1 : Option (List Call)) (old new : Stage V) → AreApart place asked → AreApart place left → (g : InTurn c0 old turn asked (place ∷ left))
-      → (DemoAt is s base c0 old g.now → answers_of place g.now ≡ [] → AsksAll is s base c1 new place g.now) → InTurn c1 new turn (place ∷ asked) left
-  asks_next place asked left turn c0 c1 old new apart apart_left g does =
-      let then = does g.at g.uncalled.0 in
-      record {
-        now = then.after;
-        at = then.at;
-        turn_is = then.asks.turn_is ∙ g.turn_is;
-        sent = record { on_a = then.asks.on_a ∙ g.sent.on_a; on_b = then.asks.on_b ∙ g.sent.on_b; ticked = then.asks.ticked ∙ g.sent.ticked };
-        over = (then.over, all_stay_over asked place g.now then.after then.asks apart g.over);
-        uncalled = all_stay_uncalled left place g.now then.after then.asks apart_left g.uncalled.1;
-      }
+  module _ (turn k : ℕ) (d : Place) (few : k < 7) (calls : Option (List Call)) (stage : Stage V) (g : InTurn calls stage turn k) where
+    abbrev next : Place
+    next = get_or places k d
 
-  -- what a call that asks a place ensures
-  abbrev AsksThere : Place → Option (List Call) → Option (List Call) → Stage V → Stage V → Type 0
-  AsksThere place c0 c1 old new = (now : Scene) → DemoAt is s base c0 old now → answers_of place now ≡ [] → AsksAll is s base c1 new place now
+    pub next_uncalled : answers_of next g.now ≡ []
+    next_uncalled = let here = numbered k d few in g.uncalled next (omega (arith, here))
 
-  -- each in its turn
-  module _ (turn : ℕ) (c0 c1 : Option (List Call)) (old new : Stage V) where
-    pub asks_grp_server : AsksThere (TheEnd GrpServer) c0 c1 old new → Asked 0 c0 old turn → Asked 1 c1 new turn
-    asks_grp_server asks g = asks_next (TheEnd GrpServer) (drop 7 backwards) (drop 1 places) turn c0 c1 old new tt (λ e. cc, (λ e. cc, (λ e. cc, (λ e. cc, (λ e. cc, (λ e. cc, tt)))))) g (asks g.now)
-
-    pub asks_spin_server : AsksThere (TheEnd SpinServer) c0 c1 old new → Asked 1 c0 old turn → Asked 2 c1 new turn
-    asks_spin_server asks g = asks_next (TheEnd SpinServer) (drop 6 backwards) (drop 2 places) turn c0 c1 old new (λ e. cc, tt) (λ e. cc, (λ e. cc, (λ e. cc, (λ e. cc, (λ e. cc, tt))))) g (asks g.now)
-
-    pub asks_line_a : AsksThere (TheLine A) c0 c1 old new → Asked 2 c0 old turn → Asked 3 c1 new turn
-    asks_line_a asks g = asks_next (TheLine A) (drop 5 backwards) (drop 3 places) turn c0 c1 old new (λ e. cc, (λ e. cc, tt)) (λ e. cc, (λ e. cc, (λ e. cc, (λ e. cc, tt)))) g (asks g.now)
-
-    pub asks_line_b : AsksThere (TheLine B) c0 c1 old new → Asked 3 c0 old turn → Asked 4 c1 new turn
-    asks_line_b asks g = asks_next (TheLine B) (drop 4 backwards) (drop 4 places) turn c0 c1 old new (λ e. cc, (λ e. cc, (λ e. cc, tt))) (λ e. cc, (λ e. cc, (λ e. cc, tt))) g (asks g.now)
-
-    pub asks_line_gap : AsksThere (TheLine Gap) c0 c1 old new → Asked 4 c0 old turn → Asked 5 c1 new turn
-    asks_line_gap asks g = asks_next (TheLine Gap) (drop 3 backwards) (drop 5 places) turn c0 c1 old new (λ e. cc, (λ e. cc, (λ e. cc, (λ e. cc, tt)))) (λ e. cc, (λ e. cc, tt)) g (asks g.now)
-
-    pub asks_grp_client : AsksThere (TheEnd GrpClient) c0 c1 old new → Asked 5 c0 old turn → Asked 6 c1 new turn
-    asks_grp_client asks g = asks_next (TheEnd GrpClient) (drop 2 backwards) (drop 6 places) turn c0 c1 old new (λ e. cc, (λ e. cc, (λ e. cc, (λ e. cc, (λ e. cc, tt))))) (λ e. cc, tt) g (asks g.now)
-
-    pub asks_spin_client : AsksThere (TheEnd SpinClient) c0 c1 old new → Asked 6 c0 old turn → Asked 7 c1 new turn
-    asks_spin_client asks g = asks_next (TheEnd SpinClient) (drop 1 backwards) (drop 7 places) turn c0 c1 old new (λ e. cc, (λ e. cc, (λ e. cc, (λ e. cc, (λ e. cc, (λ e. cc, tt)))))) tt g (asks g.now)
+    pub asks_next : (calls' : Option (List Call)) (stage' : Stage V) → AsksAll is s base calls' stage' next g.now → InTurn calls' stage' turn (k + 1)
+    asks_next calls' stage' then = let here = numbered k d few in record {
+      now = then.after;
+      at = then.at;
+      turn_is = then.asks.turn_is ∙ g.turn_is;
+      sent = record { on_a = then.asks.on_a ∙ g.sent.on_a; on_b = then.asks.on_b ∙ g.sent.on_b; ticked = then.asks.ticked ∙ g.sent.ticked };
+      over = λ other before. elim (cases_eq (number_of other) k) [
+        | inl same ↦ subst (λ (p : Place). IsPlaceOver p then.after) (same_number next other (here ∙ sym same)) then.over
+        | inr apart ↦ stays_over other next g.now then.after then.asks (λ e. apart (ap number_of e ∙ here)) (g.over other (omega (arith, before, apart)))
+      ];
+      uncalled = λ other after. then.asks.others other (λ e. absurd (omega (arith, after, here, ap number_of e))) ∙ g.uncalled other (omega (arith, after));
+    }
 
   -- all were asked
-  pub turn_ends : (calls : Option (List Call)) (stage : Stage V) (turn : ℕ) → Asked 7 calls stage turn → TurnEnds is s base calls stage turn
-  turn_ends calls stage turn g = record {
+  pub turn_ends : (calls : Option (List Call)) (stage : Stage V) (turn count : ℕ) → count ≡ 7 → InTurn calls stage turn count → TurnEnds is s base calls stage turn
+  turn_ends calls stage turn count all g = record {
     now = g.now;
     at = g.at;
     turn_is = g.turn_is;
     over = record {
-      lines = lines;
-      ends = ends;
+      lines = λ line. closed (is_group_open (line_in line g.now).answers) (g.over (TheLine line) (omega (arith, all, below_seven (TheLine line))));
+      ends = λ at. g.over (TheEnd at) (omega (arith, all, below_seven (TheEnd at)));
       on_a = sent.on_a;
       on_b = sent.on_b;
       ticked = sent.ticked;
@@ -232,13 +191,6 @@ module _ {V : Type 0} (is : V → VenueState → Type 0) (s : Setting) (base : L
       sent : IsSentTo s g.now.turn g.now
       sent = subst (λ (t : ℕ). IsSentTo s t g.now) (sym g.turn_is) g.sent
 
-      lines : (line : Line) → is_group_open (line_in line g.now).answers ≡ false
-      lines A = g.over.1.1.1.1.0
-      lines B = g.over.1.1.1.0
-      lines Gap = g.over.1.1.0
-
-      ends : (at : LinkEnd) → IsEndOver at g.now
-      ends GrpClient = g.over.1.0
-      ends GrpServer = g.over.1.1.1.1.1.1.0
-      ends SpinClient = g.over.0
-      ends SpinServer = g.over.1.1.1.1.1.0
+      closed : (b : Bool) → (b ≡ true → false ≡ true) → b ≡ false
+      closed true over = sym (over refl)
+      closed false over = refl

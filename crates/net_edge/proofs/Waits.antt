@@ -1,5 +1,5 @@
 -- What waits at the ends of a world, and what is put of it.
-use Rattle.std.proofs.Common.{◌≡◌, ℕ, ◌+◌, Bool, true, false, cond, ◌==◌, List, [], ◌∷◌, drop, Option, Some, None, refl, sym, ap, ◌∙◌}
+use Rattle.std.proofs.Common.{◌≡◌, ℕ, ◌+◌, List, [], ◌∷◌, drop, Option, refl, ap, ◌∙◌, arith}
 use Rattle.std.proofs.lemmas.List.{drop-drop}
 use Rattle.std.proofs.Math.Seq.{drop-nil}
 use Rattle.pitch_io.specs.declared.net.LinkEnd.{LinkEnd}
@@ -17,30 +17,20 @@ use Rattle.net_edge.specs.Scene.{waits_at}
 module _ {X : Type 0} (id : ℕ) where
   sessions_none : (ks : List (Session X)) → at_session id (puts 0) ks ≡ ks
   sessions_none [] = refl
-  sessions_none (k ∷ ks) = by (k.id == id) (sessions_none ks)
-    where
-      by : (b : Bool) → at_session id (puts 0) ks ≡ ks → cond b (puts 0 k ∷ ks) (k ∷ at_session id (puts 0) ks) ≡ k ∷ ks
-      by true rest = refl
-      by false rest = ap (λ (l : List (Session X)). k ∷ l) rest
+  sessions_none (k ∷ ks) = grind (arith, sessions_none ks)
 
   put_twice : (m n : ℕ) (k : Session X) → puts n (puts m k) ≡ puts (m + n) k
   put_twice m n k = ap (λ (l : List ℕ). record { id = k.id; happened = k.happened; waiting = l }) (drop-drop n m k.waiting)
 
   sessions_both : (m n : ℕ) (ks : List (Session X)) → at_session id (puts n) (at_session id (puts m) ks) ≡ at_session id (puts (m + n)) ks
   sessions_both m n [] = refl
-  sessions_both m n (k ∷ ks) = by (k.id == id) refl (sessions_both m n ks)
-    where
-      by : (b : Bool) → (k.id == id) ≡ b → at_session id (puts n) (at_session id (puts m) ks) ≡ at_session id (puts (m + n)) ks
-          → at_session id (puts n) (cond b (puts m k ∷ ks) (k ∷ at_session id (puts m) ks)) ≡ cond b (puts (m + n) k ∷ ks) (k ∷ at_session id (puts (m + n)) ks)
-      by true is rest = ap (λ (b : Bool). cond b (puts n (puts m k) ∷ ks) (puts m k ∷ at_session id (puts n) ks)) is ∙ ap (λ (x : Session X). x ∷ ks) (put_twice m n k)
-      by false is rest = ap (λ (b : Bool). cond b (puts n k ∷ at_session id (puts m) ks) (k ∷ at_session id (puts n) (at_session id (puts m) ks))) is ∙ ap (λ (l : List (Session X)). k ∷ l) rest
+  sessions_both m n (k ∷ ks) = grind (arith, put_twice, sessions_both m n ks)
 
   waits_then : (n : ℕ) (ks : List (Session X)) → waiting_in (session_of id (at_session id (puts n) ks)) ≡ drop n (waiting_in (session_of id ks))
   waits_then n ks = ap waiting_in (one_becomes (puts n) (λ k. refl) id ks) ∙ by (session_of id ks)
     where
       by : (o : Option (Session X)) → waiting_in (became (puts n) (λ k. refl) o) ≡ drop n (waiting_in o)
-      by None = sym (drop-nil n)
-      by (Some k) = refl
+      by o = grind (arith, drop-nil)
 
 -- ---- The ends of a world
 pub put_at_none : (at : LinkEnd) (w : State) → put_at at 0 w ≡ w
@@ -57,26 +47,10 @@ put_at_both SpinServer m n w = ap (λ (ks : List (Session (List Served))). recor
 
 -- what was put waits no more
 pub waits_left : (at : LinkEnd) (n : ℕ) (w : State) → waits_at at (put_at at n w) ≡ drop n (waits_at at w)
-waits_left GrpClient n w = refl
 waits_left GrpServer n w = waits_then the_session n w.venue.proxies
-waits_left SpinClient n w = refl
 waits_left SpinServer n w = waits_then the_session n w.venue.spins
+waits_left at n w = refl
 
 -- and nothing else changes
 pub others_wait : (at other : LinkEnd) (n : ℕ) (w : State) → (other ≡ at → ⊥) → waits_at other (put_at at n w) ≡ waits_at other w
-others_wait GrpClient GrpClient n w apart = absurd (apart refl)
-others_wait GrpClient GrpServer n w apart = refl
-others_wait GrpClient SpinClient n w apart = refl
-others_wait GrpClient SpinServer n w apart = refl
-others_wait GrpServer GrpClient n w apart = refl
-others_wait GrpServer GrpServer n w apart = absurd (apart refl)
-others_wait GrpServer SpinClient n w apart = refl
-others_wait GrpServer SpinServer n w apart = refl
-others_wait SpinClient GrpClient n w apart = refl
-others_wait SpinClient GrpServer n w apart = refl
-others_wait SpinClient SpinClient n w apart = absurd (apart refl)
-others_wait SpinClient SpinServer n w apart = refl
-others_wait SpinServer GrpClient n w apart = refl
-others_wait SpinServer GrpServer n w apart = refl
-others_wait SpinServer SpinClient n w apart = refl
-others_wait SpinServer SpinServer n w apart = absurd (apart refl)
+others_wait at other n w apart = grind arith

@@ -247,6 +247,17 @@ impl<V: Venue> Stage<V> {
         Ok(())
     }
 
+    // Where an end got End, that is noted.
+    fn note_end(&mut self, at: LinkEnd, taken: NetTaken)
+        ensures holds { (w : State) → Holds V.is self.old w → Holds V.is self.new w }
+        ensures ended { self.new.ended
+            ≡ (if got_end taken then and_end at self.old.ended else self.old.ended) }
+    {
+        if let NetTaken::End = taken {
+            self.ended = self.ended.with(at);
+        }
+    }
+
     /// What a call of `take` brings to an end, behind which further calls come in this turn or
     /// none. Answers what the proxy accepts, for the gap line.
     pub(crate) fn take(
@@ -265,9 +276,7 @@ impl<V: Venue> Stage<V> {
             → Replays w (takes at (came taken into.now) taken goes_on) [] (bytes_in list.items)) }
     {
         let session = session_at(at);
-        if let NetTaken::End = taken {
-            self.ended = self.ended.with(at);
-        }
+        self.note_end(at, taken);
         let mut gap_line = DatagramList::make(self.alloc);
         if is_client(at) {
             self.hear(session, taken, into)?;

@@ -1,22 +1,21 @@
 //! A turn: what the two ends do over a net.
 
-ghost use Rattle.std.specs.Prelude.{◌≡◌, ◌≤◌, ◌-◌, [], List, OnOk, IfErr, IfOk, length};
-ghost use Rattle.std.specs.Prelude.{false, true, ◌&&◌};
+ghost use Rattle.std.specs.Prelude.{◌≡◌, ◌≤◌, ◌-◌, [], List, OnOk, IfErr, IfOk, Option, length};
+ghost use Rattle.std.specs.Prelude.{true, ◌&&◌, Bool};
 ghost use Rattle.pitch_io.specs.Nets.{Call};
 ghost use Rattle.world_model.specs.State.{State};
-ghost use Rattle.net_edge.specs.Acting.{is_group_open, put_at};
+ghost use Rattle.net_edge.specs.Acting.{put_at};
 ghost use Rattle.net_edge.specs.Breaking.{Breaks};
 ghost use Rattle.unit_packets.specs.Packing.{bytes_in};
 ghost use Rattle.net_edge.specs.Due.{AreDuePieces, Setting, call_room, is_tenth};
 ghost use Rattle.net_edge.specs.Due.{new_datagrams, setting};
-ghost use Rattle.net_edge.specs.Scene.{Scene, is_done, is_got, published, waits_at};
+ghost use Rattle.net_edge.specs.Scene.{Scene, is_got, published, waits_at};
+ghost use Rattle.net_edge.specs.declared.turn.Place.TheVariants.{Line as TheLine, End as TheEnd};
 ghost use Rattle.net_edge.specs.layers.Ends.{Becomes, Holds};
-ghost use Rattle.net_edge.specs.layers.Playing.{AsksAll, AsksOnce, DemoAt, GoesOn, NetCounts};
-ghost use Rattle.net_edge.specs.layers.Playing.{Plays};
-ghost use Rattle.net_edge.specs.layers.Playing.{StageAt, TheEnd, TheLine, TurnBegins, TurnGoes};
-ghost use Rattle.net_edge.specs.layers.Playing.{TurnEnds, after_beat, after_due_beat, all_put};
-ghost use Rattle.net_edge.specs.layers.Playing.{all_put_at};
-ghost use Rattle.net_edge.specs.layers.Playing.{IsAllSent, answers_of};
+ghost use Rattle.net_edge.specs.layers.Playing.{AsksAll, AsksOnce, DemoAt, IsAllSent, MayAsk};
+ghost use Rattle.net_edge.specs.layers.Playing.{NetCounts, Plays, StageAt, TurnBegins, TurnEnds};
+ghost use Rattle.net_edge.specs.layers.Playing.{TurnGoes, after_beat, after_due_beat, all_put};
+ghost use Rattle.net_edge.specs.layers.Playing.{all_put_at, answers_of, is_place_done};
 
 use crate::error::DemoError;
 use crate::putting::{put_whole, send, send_all, send_unless};
@@ -27,7 +26,25 @@ use pitch_io::{Line, LinkEnd, Net, NetDone, NetTaken};
 use unit_packets::DatagramList;
 use venue_core::{lost, plan_command};
 
-// How often a line or an end is asked in a turn, while something comes.
+/// What is asked in a turn.
+#[derive(Clone, Copy)]
+pub(crate) enum Place {
+    Line(Line),
+    End(LinkEnd),
+}
+
+// They are asked in this order: both servers, the lines, and the client's ends.
+const PLACES: [Place; 7] = [
+    Place::End(LinkEnd::GrpServer),
+    Place::End(LinkEnd::SpinServer),
+    Place::Line(Line::A),
+    Place::Line(Line::B),
+    Place::Line(Line::Gap),
+    Place::End(LinkEnd::GrpClient),
+    Place::End(LinkEnd::SpinClient),
+];
+
+// How often a place is asked in a turn, while something comes.
 const MOST_CALLS: u32 = 100;
 
 impl<V: Venue> Stage<V> {
@@ -174,16 +191,13 @@ impl<V: Venue> Stage<V> {
         more: bool,
     ) -> Result<NetTaken, DemoError>
         requires { length into.old ≡ call_room }
-        ensures taken { IfOk result (λ answer. (s : Setting) (base : List Call) (now : Scene)
-            → DemoAt V.is s base (N.calls net.old) self.old now
-            → is_group_open (answers_of (TheEnd at) now) ≡ true → is_done at now ≡ false
-            → GoesOn (answers_of (TheEnd at) now) more
+        ensures asked { IfOk result (λ answer. (s : Setting) (base : List Call) (now : Scene)
+            → DemoAt V.is s base (N.calls net.old) self.old now → MayAsk (TheEnd at) more now
             → AsksOnce V.is s base (N.calls net.new) self.new (TheEnd at) answer now) }
         ensures room { length into.new ≡ length into.old }
         ensures broke { IfErr result (λ error. (s : Setting) (base : List Call) (now : Scene)
-            → DemoAt V.is s base (N.calls net.old) self.old now
-            → is_group_open (answers_of (TheEnd at) now) ≡ true → is_done at now ≡ false
-            → GoesOn (answers_of (TheEnd at) now) more → Breaks s base (N.calls net.new) error) }
+            → DemoAt V.is s base (N.calls net.old) self.old now → MayAsk (TheEnd at) more now
+            → Breaks s base (N.calls net.new) error) }
         ensures faults { NetCounts result (N.faults net.old) (N.faults net.new) }
     {
         let taken = net.take(at, into);
@@ -196,36 +210,6 @@ impl<V: Venue> Stage<V> {
         Ok(taken)
     }
 
-    // A turn's calls of `take` at an end.
-    fn take_all<N: Net>(
-        &mut self,
-        net: &mut N,
-        at: LinkEnd,
-        into: &mut [u8],
-    ) -> Result<(), DemoError>
-        requires { length into.old ≡ call_room }
-        ensures taken { OnOk result ((s : Setting) (base : List Call) (now : Scene)
-            → DemoAt V.is s base (N.calls net.old) self.old now
-            → answers_of (TheEnd at) now ≡ []
-            → AsksAll V.is s base (N.calls net.new) self.new (TheEnd at) now) }
-        ensures room { length into.new ≡ length into.old }
-        ensures broke { IfErr result (λ error. (s : Setting) (base : List Call) (now : Scene)
-            → DemoAt V.is s base (N.calls net.old) self.old now
-            → answers_of (TheEnd at) now ≡ [] → Breaks s base (N.calls net.new) error) }
-        ensures faults { NetCounts result (N.faults net.old) (N.faults net.new) }
-    {
-        'takes: for index in 0..MOST_CALLS {
-            if self.is_done(at) {
-                return Ok(());
-            }
-            match self.take_once(net, at, into, index != MOST_CALLS - 1)? {
-                NetTaken::Got(_) => {}
-                NetTaken::Quiet | NetTaken::End | NetTaken::Failed => return Ok(()),
-            }
-        }
-        Ok(())
-    }
-
     // One call of `next` on a line; the client hears what came.
     fn hear_once<N: Net>(
         &mut self,
@@ -234,14 +218,14 @@ impl<V: Venue> Stage<V> {
         into: &mut [u8],
     ) -> Result<NetTaken, DemoError>
         requires { length into.old ≡ call_room }
-        ensures heard { IfOk result (λ answer. (s : Setting) (base : List Call) (now : Scene)
-            → DemoAt V.is s base (N.calls net.old) self.old now
-            → is_group_open (answers_of (TheLine line) now) ≡ true
+        ensures asked { IfOk result (λ answer.
+            (s : Setting) (base : List Call) (now : Scene) (more : Bool)
+            → DemoAt V.is s base (N.calls net.old) self.old now → MayAsk (TheLine line) more now
             → AsksOnce V.is s base (N.calls net.new) self.new (TheLine line) answer now) }
         ensures room { length into.new ≡ length into.old }
-        ensures broke { IfErr result (λ error. (s : Setting) (base : List Call) (now : Scene)
-            → DemoAt V.is s base (N.calls net.old) self.old now
-            → is_group_open (answers_of (TheLine line) now) ≡ true
+        ensures broke { IfErr result (λ error.
+            (s : Setting) (base : List Call) (now : Scene) (more : Bool)
+            → DemoAt V.is s base (N.calls net.old) self.old now → MayAsk (TheLine line) more now
             → Breaks s base (N.calls net.new) error) }
         ensures faults { NetCounts result (N.faults net.old) (N.faults net.new) }
     {
@@ -256,26 +240,58 @@ impl<V: Venue> Stage<V> {
         }
     }
 
-    // A turn's calls of `next` on a line.
-    fn hear_all<N: Net>(
+    // One call at a place.
+    fn ask_once<N: Net>(
         &mut self,
         net: &mut N,
-        line: Line,
+        place: Place,
         into: &mut [u8],
-    ) -> Result<(), DemoError>
+        more: bool,
+    ) -> Result<NetTaken, DemoError>
         requires { length into.old ≡ call_room }
-        ensures heard { OnOk result ((s : Setting) (base : List Call) (now : Scene)
-            → DemoAt V.is s base (N.calls net.old) self.old now
-            → answers_of (TheLine line) now ≡ []
-            → AsksAll V.is s base (N.calls net.new) self.new (TheLine line) now) }
+        ensures asked { IfOk result (λ answer. (s : Setting) (base : List Call) (now : Scene)
+            → DemoAt V.is s base (N.calls net.old) self.old now → MayAsk place more now
+            → AsksOnce V.is s base (N.calls net.new) self.new place answer now) }
         ensures room { length into.new ≡ length into.old }
         ensures broke { IfErr result (λ error. (s : Setting) (base : List Call) (now : Scene)
-            → DemoAt V.is s base (N.calls net.old) self.old now
-            → answers_of (TheLine line) now ≡ [] → Breaks s base (N.calls net.new) error) }
+            → DemoAt V.is s base (N.calls net.old) self.old now → MayAsk place more now
+            → Breaks s base (N.calls net.new) error) }
         ensures faults { NetCounts result (N.faults net.old) (N.faults net.new) }
     {
-        'calls: for _index in 0..MOST_CALLS {
-            match self.hear_once(net, line, into)? {
+        match place {
+            Place::Line(line) => self.hear_once(net, line, into),
+            Place::End(at) => self.take_once(net, at, into, more),
+        }
+    }
+
+    // Whether a place is asked no more.
+    fn is_place_done(&self, place: Place) -> bool
+        ensures { (s : Setting) (base : List Call) (calls : Option (List Call)) (now : Scene)
+            → StageAt V.is s base calls self.now now → result ≡ is_place_done place now }
+    {
+        match place {
+            Place::Line(_) => false,
+            Place::End(at) => self.is_done(at),
+        }
+    }
+
+    // A turn's calls at a place.
+    fn ask<N: Net>(&mut self, net: &mut N, place: Place, into: &mut [u8]) -> Result<(), DemoError>
+        requires { length into.old ≡ call_room }
+        ensures asked { OnOk result ((s : Setting) (base : List Call) (now : Scene)
+            → DemoAt V.is s base (N.calls net.old) self.old now → answers_of place now ≡ []
+            → AsksAll V.is s base (N.calls net.new) self.new place now) }
+        ensures room { length into.new ≡ length into.old }
+        ensures broke { IfErr result (λ error. (s : Setting) (base : List Call) (now : Scene)
+            → DemoAt V.is s base (N.calls net.old) self.old now → answers_of place now ≡ []
+            → Breaks s base (N.calls net.new) error) }
+        ensures faults { NetCounts result (N.faults net.old) (N.faults net.new) }
+    {
+        'calls: for index in 0..MOST_CALLS {
+            if self.is_place_done(place) {
+                return Ok(());
+            }
+            match self.ask_once(net, place, into, index != MOST_CALLS - 1)? {
                 NetTaken::Got(_) => {}
                 NetTaken::Quiet | NetTaken::End | NetTaken::Failed => return Ok(()),
             }
@@ -283,8 +299,7 @@ impl<V: Venue> Stage<V> {
         Ok(())
     }
 
-    /// One turn: what the venue does, then what comes to both servers, on the lines, and to the
-    /// client's ends.
+    /// One turn: what the venue does, and then what comes at each place.
     pub(crate) fn turn<N: Net>(
         &mut self,
         net: &mut N,
@@ -306,13 +321,10 @@ impl<V: Venue> Stage<V> {
         ensures faults { NetCounts result (N.faults net.old) (N.faults net.new) }
     {
         self.open_turn(net, number, count, turn)?;
-        self.take_all(net, LinkEnd::GrpServer, into)?;
-        self.take_all(net, LinkEnd::SpinServer, into)?;
-        self.hear_all(net, Line::A, into)?;
-        self.hear_all(net, Line::B, into)?;
-        self.hear_all(net, Line::Gap, into)?;
-        self.take_all(net, LinkEnd::GrpClient, into)?;
-        self.take_all(net, LinkEnd::SpinClient, into)
+        'places: for place in PLACES {
+            self.ask(net, place, into)?;
+        }
+        Ok(())
     }
 }
 

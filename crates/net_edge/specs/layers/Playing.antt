@@ -1,7 +1,6 @@
 -- What the code knows of a run that is under way. No caller needs it.
 use Rattle.std.specs.Prelude.{◌≡◌, ◌≤◌, ◌-◌, ◌&&◌, ℕ, Bool, true, false, List, [], ◌∷◌, ◌++◌}
 use Rattle.std.specs.Prelude.{Option, None, Some, Result, OnOk, IfErr, length, if◌then◌else◌}
-use Rattle.pitch_io.specs.declared.line.Line.{Line}
 use Rattle.pitch_io.specs.declared.line.Line.TheVariants.{A, B}
 use Rattle.pitch_io.specs.declared.net.LinkEnd.{LinkEnd}
 use Rattle.pitch_io.specs.declared.net.LinkEnd.TheVariants.{GrpClient, GrpServer, SpinClient}
@@ -15,11 +14,13 @@ use Rattle.net_edge.specs.Demo.{IsLast}
 use Rattle.net_edge.specs.Due.{Setting, beat, due, is_tenth, messages, ticks}
 use Rattle.net_edge.specs.Scene.{Scene, line_in, at_end, waits_at, is_done, is_got, published}
 use Rattle.net_edge.specs.Steps.{Step, calls_of}
-use Rattle.net_edge.specs.Turns.{AreSteps, IsEndOver, IsOver}
+use Rattle.net_edge.specs.Turns.{AreSteps, IsOver}
 use Rattle.net_edge.specs.declared.end_set.EndSet.{EndSet}
 use Rattle.net_edge.specs.declared.error.DemoError.{DemoError}
 use Rattle.net_edge.specs.declared.error.DemoError.TheVariants as errors
 use Rattle.net_edge.specs.declared.stage.Stage.{Stage}
+use Rattle.net_edge.specs.declared.turn.Place.{Place}
+use Rattle.net_edge.specs.declared.turn.Place.TheVariants.{Line as TheLine, End as TheEnd}
 use Rattle.net_edge.specs.layers.Ends.{Holds}
 use Rattle.venue_end.specs.Came.{VenueState}
 use Rattle.world_model.specs.State.{State}
@@ -97,19 +98,18 @@ pub record DemoAt {V : Type 0} (is : V → VenueState → Type 0) (s : Setting) 
   pub replayed : now.gap.sent ≡ now.world.replayed
 
 -- ---- Groups of calls
--- what is asked in a turn: a line, or an end
-pub data Place : Type 0 where
-  TheLine : (line : Line) → Place
-  TheEnd : (at : LinkEnd) → Place
-
 abbrev pub answers_of : Place → Scene → List NetTaken
 answers_of (TheLine line) now = (line_in line now).answers
 answers_of (TheEnd at) now = (at_end at now).answers
 
--- its group of calls is over
+-- it is asked no more: an end may be done, a line never is
+abbrev pub is_place_done : Place → Scene → Bool
+is_place_done (TheLine line) now = false
+is_place_done (TheEnd at) now = is_done at now
+
+-- the turn's group of calls there is over, or it is asked no more
 abbrev pub IsPlaceOver : Place → Scene → Type 0
-IsPlaceOver (TheLine line) now = is_group_open (line_in line now).answers ≡ false
-IsPlaceOver (TheEnd at) now = IsEndOver at now
+IsPlaceOver place now = is_group_open (answers_of place now) ≡ true → is_place_done place now ≡ true
 
 -- nothing else was asked from one scene to another, nothing was sent on lines A and B, no second
 -- passed, and what is asked no more stays so
@@ -138,10 +138,12 @@ pub record AsksAll {V : Type 0} (is : V → VenueState → Type 0) (s : Setting)
   pub asks : Asks place now after
   pub over : IsPlaceOver place after
 
--- further calls come behind the next one where it got something, and more may come
-abbrev pub GoesOn : List NetTaken → Bool → Type 0
-GoesOn answers more =
-    (answer : NetTaken) → is_group_open (answer ∷ answers) ≡ (is_got answer && more)
+-- one call more may come there, and others behind it where it gets something and more may come
+pub record MayAsk (place : Place) (more : Bool) (now : Scene) : Type 0 where
+  pub opened : is_group_open (answers_of place now) ≡ true
+  pub undone : is_place_done place now ≡ false
+  pub goes : (answer : NetTaken)
+      → is_group_open (answer ∷ answers_of place now) ≡ (is_got answer && more)
 
 -- ---- A heartbeat
 -- it was sent on both lines, a second passed, and what was said by that was put

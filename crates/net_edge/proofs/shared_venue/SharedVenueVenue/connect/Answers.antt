@@ -1,10 +1,12 @@
+use Rattle.std.proofs.Common.{refl}
 use Rattle.std.proofs.lemmas.Result.{on_ok_weaker}
 use Rattle.pitch_text.specs.declared.verb.Session.TheVariants.{Grp, Spin}
-use Rattle.net_edge.proofs.SharedEnds.{made_comes}
+use Rattle.world_model.specs.Ends.{server_made}
+use Rattle.net_edge.proofs.SharedEnds.{alone_comes}
 use Rattle.net_edge.proofs.shared_venue.SharedVenueVenue.connect.Goals as goal
 
 pub returns-in-Grp : goal.returns-in-Grp
-returns-in-Grp g c = on_ok_weaker c.connect_proxy.result (made_comes c.args.self.now.unsent.items c.args.self.now.next c.args.self.now.market c.args.self.now.servers c.connect_proxy.new.self c.args.session Grp c.in-Grp.is) c.connect_proxy.ensures.stands
+returns-in-Grp g c = rw c.in-Grp.is (on_ok_weaker c.connect_proxy.result (λ comes. alone_comes _ _ _ _ _ (server_made Grp) (λ now. refl) comes) c.connect_proxy.ensures.stands)
 
 pub returns-in-Spin : goal.returns-in-Spin
-returns-in-Spin g c = on_ok_weaker c.connect_spin.result (made_comes c.args.self.now.unsent.items c.args.self.now.next c.args.self.now.market c.args.self.now.servers c.connect_spin.new.self c.args.session Spin c.in-Spin.is) c.connect_spin.ensures.stands
+returns-in-Spin g c = rw c.in-Spin.is (on_ok_weaker c.connect_spin.result (λ comes. alone_comes _ _ _ _ _ (server_made Spin) (λ now. refl) comes) c.connect_spin.ensures.stands)

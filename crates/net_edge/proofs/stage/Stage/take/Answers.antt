@@ -3,41 +3,30 @@ use Rattle.pitch_io.specs.layers.Coming.{came}
 use Rattle.pitch_messages.specs.Room.{Roomy}
 use Rattle.pitch_text.specs.declared.verb.Session.{Session}
 use Rattle.unit_packets.specs.Packing.{bytes_in}
-use Rattle.world_model.specs.State.{State}
 use Rattle.net_edge.specs.Acting.{link_takes, server_takes}
 use Rattle.net_edge.specs.Scene.{session_at}
-use Rattle.net_edge.specs.declared.stage.Stage.{Stage}
 use Rattle.net_edge.specs.layers.Ends.{Holds, Replays}
-use Rattle.net_edge.proofs.Asking.{link_replayed}
 use Rattle.net_edge.proofs.Staging.{none_replays}
+use Rattle.net_edge.proofs.Taking.{link_replayed}
 use Rattle.net_edge.proofs.stage.Stage.take.Goals as goal
-use Rattle.net_edge.proofs.stage.Stage.take.Goals.{in-End, in_default}
 
 pub returns-then-is_client-clause-holds : goal.returns-then-is_client-clause-holds
 returns-then-is_client-clause-holds g c =
     let is = g.V.Venue.is in
     let session = session_at c.args.at in
     let bytes = came c.args.taken c.args.into.now in
-    let held : (w : State) → Holds is c.args.self.now w → Holds is c.match-taken.self w = λ w h. elim c.match-taken.branch [
-      | in-End x ↦ subst (λ (e : Stage g.row.V.Denot). Holds is e w) (sym x.self-is) (record { venue = h.venue; client = h.client; came = h.came; came_is = h.came_is })
-      | in_default x ↦ subst (λ (e : Stage g.row.V.Denot). Holds is e w) (sym x.self-is) h
-    ] in
     λ w h.
     subst (λ (b : Bool). Holds is c.hear.new.self (cond b (link_takes session bytes c.args.taken w) (server_takes session bytes c.args.taken c.args.goes_on w))) (sym c.if-is_client.true ∙ c.is_client.ensures)
-    (subst (λ (x : Session). Holds is c.hear.new.self (link_takes x bytes c.args.taken w)) c.session_at-session.ensures (c.in_ok-hear.ensures.holds w (held w h)))
+    (subst (λ (x : Session). Holds is c.hear.new.self (link_takes x bytes c.args.taken w)) c.session_at-session.ensures (c.in_ok-hear.ensures.holds w (c.note_end.ensures.holds w h)))
 
 pub returns-clause-holds : goal.returns-clause-holds
 returns-clause-holds g c =
     let is = g.V.Venue.is in
     let session = session_at c.args.at in
     let bytes = came c.args.taken c.args.into.now in
-    let held : (w : State) → Holds is c.args.self.now w → Holds is c.match-taken.self w = λ w h. elim c.match-taken.branch [
-      | in-End x ↦ subst (λ (e : Stage g.row.V.Denot). Holds is e w) (sym x.self-is) (record { venue = h.venue; client = h.client; came = h.came; came_is = h.came_is })
-      | in_default x ↦ subst (λ (e : Stage g.row.V.Denot). Holds is e w) (sym x.self-is) h
-    ] in
     λ w h.
     subst (λ (b : Bool). Holds is c.serve.new.self (cond b (link_takes session bytes c.args.taken w) (server_takes session bytes c.args.taken c.args.goes_on w))) (sym c.if-is_client.false ∙ c.is_client.ensures)
-    (subst (λ (x : Session). Holds is c.serve.new.self (server_takes x bytes c.args.taken c.args.goes_on w)) c.session_at-session.ensures (c.in_ok-serve.ensures.becomes.holds w (held w h)))
+    (subst (λ (x : Session). Holds is c.serve.new.self (server_takes x bytes c.args.taken c.args.goes_on w)) c.session_at-session.ensures (c.in_ok-serve.ensures.becomes.holds w (c.note_end.ensures.holds w h)))
 
 pub returns-then-is_client-clause-replays : goal.returns-then-is_client-clause-replays
 returns-then-is_client-clause-replays g c =
@@ -54,11 +43,7 @@ returns-clause-replays g c =
     let session = session_at c.args.at in
     let bytes = came c.args.taken c.args.into.now in
     let lines = bytes_in c.serve.new.gap_line.items in
-    let held : (w : State) → Holds is c.args.self.now w → Holds is c.match-taken.self w = λ w h. elim c.match-taken.branch [
-      | in-End x ↦ subst (λ (e : Stage g.row.V.Denot). Holds is e w) (sym x.self-is) (record { venue = h.venue; client = h.client; came = h.came; came_is = h.came_is })
-      | in_default x ↦ subst (λ (e : Stage g.row.V.Denot). Holds is e w) (sym x.self-is) h
-    ] in
     λ w h.
     subst (λ (b : Bool). Replays w (λ v. cond b (link_takes session bytes c.args.taken v) (server_takes session bytes c.args.taken c.args.goes_on v)) [] lines) (sym c.if-is_client.false ∙ c.is_client.ensures)
     (subst (λ (x : Session). Replays w (server_takes x bytes c.args.taken c.args.goes_on) [] lines) c.session_at-session.ensures
-    (subst (λ (l : List (Roomy ℕ)). Replays w (server_takes c.session_at-session.result bytes c.args.taken c.args.goes_on) (bytes_in l) lines) c.make-gap_line.ensures (c.in_ok-serve.ensures.replays w (held w h))))
+    (subst (λ (l : List (Roomy ℕ)). Replays w (server_takes c.session_at-session.result bytes c.args.taken c.args.goes_on) (bytes_in l) lines) c.make-gap_line.ensures (c.in_ok-serve.ensures.replays w (c.note_end.ensures.holds w h))))
