@@ -1,7 +1,8 @@
 //! Connections by their numbers.
 
 ghost use Rattle.std.specs.Prelude.{◌≡◌, ◌≢◌, ◌<◌, length, set, true, false, IfOk};
-ghost use Rattle.std.specs.Prelude.{None, replicate};
+ghost use Rattle.std.specs.Prelude.{None, replicate, take, drop, not, is_none};
+ghost use Rattle.std.specs.List.{list_any};
 ghost use Rattle.live_net.specs.LiveCalls.{PeerPutWithin, PeerTakenWithin};
 ghost use Rattle.live_sockets.specs.layers.OpenPeers.{HasConnection, stands_after_put};
 ghost use Rattle.live_sockets.specs.layers.OpenPeers.{stands_after_take};
@@ -36,6 +37,21 @@ fn close(slot: &mut Option<Connection>, registry: &Registry)
     }
 }
 
+// So many from this number on, or as many as there are.
+fn some_of(slots: &[Option<Connection>], from: usize, count: usize) -> &[Option<Connection>]
+    ensures { result.now ≡ take count (drop from slots.now) }
+{
+    let rest = slots.get(from..).unwrap_or(&[]);
+    rest.get(..count).unwrap_or(rest)
+}
+
+// Whether one of them does not stand.
+fn lacks_one(slots: &[Option<Connection>]) -> bool
+    ensures { result ≡ list_any is_none slots.now }
+{
+    slots.iter().any(|slot| slot.is_none())
+}
+
 #[tactic(auto, using(crate::proofs::Connecting::changes))]
 impl Connections {
     /// So many, none of which stands yet.
@@ -50,12 +66,11 @@ impl Connections {
     }
 
     /// Whether one of so many, from this number on, does not stand.
-    pub fn has_free(&self, from: usize, count: usize) -> bool {
-        self.slots
-            .iter()
-            .skip(from)
-            .take(count)
-            .any(|slot| slot.is_none())
+    #[tactic(auto, using(crate::proofs::Connecting::some))]
+    pub fn has_free(&self, from: usize, count: usize) -> bool
+        ensures { result ≡ list_any not (take count (drop from self.now)) }
+    {
+        lacks_one(some_of(&self.slots, from, count))
     }
 
     /// The wait told of one.
