@@ -4,14 +4,18 @@
  * and free.
  *
  * A client is a struct of the caller's. It begins as PITCH_CLIENT_INIT, pitch_open makes it ready,
- * and pitch_close frees what it has. Do not read, write or copy its fields. No function keeps a
- * pointer that it was passed. No function calls back, starts a thread, or has a global of its own.
- * A client is used by one call at a time. Another thread may go on with it, where a lock, a start
- * or a join of a thread, or a sequentially consistent atomic orders the two; two clients share
- * nothing.
+ * and pitch_close frees what it has. Do not read or write its fields, and use one copy of it alone:
+ * whoever moves it makes the old one PITCH_CLIENT_INIT again. No function keeps a pointer that it
+ * was passed, starts a thread, or has a global of its own, and none calls but into heap.c.
  *
- * Every pointer must be to what its type says, and those of one call must not overlap. Null is told
- * as PITCH_NULL.
+ * A client is used by one call at a time, also by calls that only ask: while one runs, the client
+ * is marked closed. Another thread may go on with it, where a lock, a start or a join of a thread,
+ * or a sequentially consistent atomic orders the two; two clients share nothing. Make no call in a
+ * signal handler, nor in the child of a fork of a process with threads. Leave none by a longjmp, an
+ * exception or a cancelled thread: what heap.c calls has to return, and calls nothing of this file.
+ *
+ * Every pointer must be to what its type says, aligned as that is, and those of one call must not
+ * overlap. Null is told as PITCH_NULL.
  */
 #ifndef PITCH_CLIENT_H
 #define PITCH_CLIENT_H
@@ -26,13 +30,13 @@ extern "C" {
 /* What pitch_c_abi answers where the library has the structs and functions of this header. */
 #define PITCH_ABI 3
 
-/* What the functions answer. Where it is neither PITCH_OK nor PITCH_UNTOLD, the clients stand for
- * what they stood for, and nothing was written. */
+/* What the functions answer. Where it is neither PITCH_OK nor PITCH_UNTOLD, a client stands for
+ * what it stood for, and nothing was written. Of an end pitch_end.h tells. */
 enum pitch_code {
     PITCH_OK = 0,
-    PITCH_CLOSED = 1,      /* the client is not open */
-    PITCH_IS_OPEN = 2,     /* the client is open already */
-    PITCH_NO_MEMORY = 3,   /* the same call may be made again once there is memory */
+    PITCH_CLOSED = 1,      /* the client or the end is not open */
+    PITCH_IS_OPEN = 2,     /* it is open already */
+    PITCH_NO_MEMORY = 3,   /* of a client the same call may be made again once there is memory */
     PITCH_BAD_HOLD = 4,    /* the hold is not from 1 to 65,536 */
     PITCH_TRUNCATED = 5,   /* more bytes may complete the block */
     PITCH_NOT_A_BLOCK = 6, /* the bytes begin with no block, whatever follows */
@@ -140,6 +144,18 @@ uint32_t pitch_c_level(pitch_client *client, uint32_t unit, const uint8_t symbol
 
 /* ---- The functions for C */
 
+/* Writes the name of a symbol as orders have it, with spaces at its end: bytes that end by zeros
+ * name another symbol, which has no orders. Answers 1, or 0 where a pointer is null, or the name is
+ * empty or longer than eight. */
+static inline int pitch_symbol(uint8_t symbol[8], const char *name) {
+    size_t len = 0;
+    if (!symbol || !name) return 0;
+    while (len < 9 && name[len]) len++;
+    if (len == 0 || len > 8) return 0;
+    for (size_t at = 0; at < 8; at++) symbol[at] = at < len ? (uint8_t)name[at] : ' ';
+    return 1;
+}
+
 /* Opens a closed client. Each unit will hold at most `hold` messages, from 1 to 65,536, while one
  * before them is missing. Where `levels` is not 0, price levels are kept beside each book, so that
  * best prices are looked up; hearing a message then takes some four times as long. */
@@ -183,11 +199,12 @@ static inline uint32_t pitch_hear_quoted(pitch_client *client, const uint8_t *by
                                quotes ? quotes : &none, quotes_len, number);
 }
 
-/* Takes memory ahead for so many messages of a unit: a block takes none whose messages, with those
- * that are held, are no more. A unit that no block named gets its client by a block without
- * messages and without a sequence, which tells it of nothing. More than the orders that a book can
- * have is PITCH_NO_MEMORY. In a client that was opened with price levels, those that went for want of
- * memory are made anew from the open orders, which takes some microseconds for each. */
+/* Takes memory ahead for so many messages of a unit: pitch_hear then takes none for a block whose
+ * messages, with those that are held, are no more. A unit that no block named gets its client by a
+ * block without messages and without a sequence, which tells it of nothing. More than the orders
+ * that a book can have is PITCH_NO_MEMORY. In a client that was opened with price levels, those that
+ * went for want of memory are made anew from the open orders, which takes some microseconds for
+ * each. */
 static inline uint32_t pitch_reserve(pitch_client *client, uint32_t unit, uint32_t messages) {
     const uint8_t silent[8] = { 8, 0, 0, (uint8_t)unit, 0, 0, 0, 0 };
     pitch_heard_out told;

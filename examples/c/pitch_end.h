@@ -3,7 +3,12 @@
  *
  * An end is a struct of the caller's, as a client is: it begins as PITCH_END_INIT, pitch_end_open
  * makes it ready, and pitch_end_close frees what it has. What pitch_client.h says of a client's
- * fields, pointers and threads holds of an end. A length above PTRDIFF_MAX is told as PITCH_NULL.
+ * fields, pointers, calls and threads holds of an end. A length above PTRDIFF_MAX is told as
+ * PITCH_NULL.
+ *
+ * After any answer but PITCH_OK an end stands for what it stood for, and nothing was written, but
+ * for three calls after PITCH_NO_MEMORY: pitch_end_hear may have heard some blocks, pitch_end_took
+ * has lost its connection, and pitch_end_second both. The first may be made again.
  */
 #ifndef PITCH_END_H
 #define PITCH_END_H
