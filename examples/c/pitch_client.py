@@ -7,11 +7,33 @@ prints of each unit how far its book is and the best prices of a symbol, whose s
 those of the open orders there.
 """
 import ctypes
+import enum
 import sys
+import weakref
 
 U8, U32, U64, SIZE = ctypes.c_uint8, ctypes.c_uint32, ctypes.c_uint64, ctypes.c_size_t
-NO_CLIENT, OTHER_ABI, UNTOLD = 7, 10, 13
+# ctypes takes any int, and passes the low bits of one that does not fit.
+END_OF = {kind: 1 << 8 * ctypes.sizeof(kind) for kind in (U8, U32, U64, SIZE)}
+ABI = 3
+SILENT, CURRENT, BEHIND = 1, 2, 3
 PROXY, SPIN_SERVER = 1, 2
+
+
+class Code(enum.IntEnum):
+    """Why a call had no answer: a pitch_code of the header."""
+    CLOSED = 1
+    IS_OPEN = 2
+    NO_MEMORY = 3
+    BAD_HOLD = 4
+    TRUNCATED = 5
+    NOT_A_BLOCK = 6
+    NO_CLIENT = 7
+    NO_SIDE = 8
+    NULL = 9
+    OTHER_ABI = 10
+    BAD_UNIT = 11
+    NO_SESSION = 12
+    UNTOLD = 13
 
 
 class Raw(ctypes.Structure):
@@ -20,6 +42,10 @@ class Raw(ctypes.Structure):
 
 class Status(ctypes.Structure):
     _fields_ = [("state", U32), ("reach", U32), ("top", U32), ("spare", U32 * 5)]
+
+    @property
+    def word(self):
+        return {SILENT: "silent", CURRENT: "current", BEHIND: "behind"}[self.state]
 
 
 class Best(ctypes.Structure):
@@ -98,66 +124,115 @@ END_CALLS = {
 
 
 class PitchError(Exception):
+    """Its `code` is one of Code."""
+
     def __init__(self, code):
-        super().__init__(f"pitch code {code}")
+        name = next((it.name for it in Code if it == code), "another code")
+        super().__init__(f"pitch code {code}: {name.lower().replace('_', ' ')}")
         self.code = code
 
 
 def opened(library):
     """The library with its calls declared, where it is one of this file's."""
-    lib = ctypes.CDLL(library)
+    # A PyDLL keeps the interpreter's lock in each call, so that the calls of two threads take turns:
+    # a client is for one call at a time. A Python without that lock wants one of the caller's.
+    lib = ctypes.PyDLL(library)
     for name, (given, told) in {**CALLS, **END_CALLS}.items():
         getattr(lib, name).argtypes = given
         getattr(lib, name).restype = told
-    if lib.pitch_c_abi() != 3:
-        raise PitchError(OTHER_ABI)
+    if lib.pitch_c_abi() != ABI:
+        raise PitchError(Code.OTHER_ABI)
     return lib
 
 
 def padded(text, size):
     """A text with spaces at its end."""
-    return text.encode("ascii").ljust(size)[:size]
+    if len(text) > size:
+        raise ValueError(f"{text!r} is longer than {size}")
+    return text.encode("ascii").ljust(size)
 
 
-class Client:
-    """The clients of all units of a feed, for one thread at a time."""
+def as_bytes(data):
+    """What is no `bytes`, as a bytearray or a memoryview, is copied."""
+    return data if isinstance(data, bytes) else memoryview(data).tobytes()
 
-    def __init__(self, library, hold=4096, levels=True):
-        self.raw, self.lib = Raw(), opened(library)
-        self._ask("open", hold, levels)
+
+class Handle:
+    """A struct that the library fills. What it owns is freed by `close`, at the end of a `with`, or
+    with the last reference."""
+
+    def __init__(self, library, prefix, raw):
+        self.lib, self.prefix, self.raw = opened(library), prefix, raw
+        self.close = weakref.finalize(self, getattr(self.lib, prefix + "close"), raw)
+        # A forked child ends too, and may make no call.
+        self.close.atexit = False
+        self._calls = {}
+
+    def __enter__(self):
+        return self
+
+    def __exit__(self, *error):
+        self.close()
+
+    def _call(self, name):
+        """A call, and the end of each number that it is given, by its place."""
+        call = getattr(self.lib, self.prefix + name)
+        given = enumerate(call.argtypes[1:])
+        return call, [(at, END_OF[kind]) for at, kind in given if kind in END_OF]
 
     def _ask(self, name, *given):
-        code = getattr(self.lib, "pitch_c_" + name)(self.raw, *given)
+        if name not in self._calls:
+            self._calls[name] = self._call(name)
+        call, ends = self._calls[name]
+        for at, end in ends:
+            if not 0 <= given[at] < end:
+                raise OverflowError(f"{given[at]} does not fit in an argument of {name}")
+        code = call(self.raw, *given)
         if code:
             raise PitchError(code)
 
+
+class Client(Handle):
+    """The clients of all units of a feed. A side is "B" or "S"."""
+
+    def __init__(self, library, hold=4096, levels=True):
+        super().__init__(library, "pitch_c_", Raw())
+        self._quotes = (Quote * 0)()
+        self._ask("open", hold, levels)
+
     def hear(self, block):
         """Hears the block at the start of some bytes, and tells what it has and changed."""
-        told = Heard()
+        told, block = Heard(), as_bytes(block)
         self._ask("hear", block, len(block), told)
         return told
 
     def hear_quoted(self, block, most=1024):
         """Hears a block, and tells what it has and its quotes: at most so many, and how many there
         are. In the place of the list is None where there was no memory to tell them."""
-        told, number, quotes = Heard(), U64(), (Quote * most)()
+        told, number, block = Heard(), U64(), as_bytes(block)
+        if len(self._quotes) < most:
+            self._quotes = (Quote * most)()
         try:
-            self._ask("hear_quoted", block, len(block), told, quotes, most, number)
+            self._ask("hear_quoted", block, len(block), told, self._quotes, most, number)
         except PitchError as error:
-            if error.code != UNTOLD:
+            if error.code != Code.UNTOLD:
                 raise
             return told, None, 0
-        return told, quotes[: min(most, number.value)], number.value
+        places = range(min(most, number.value))
+        return told, [Quote.from_buffer_copy(self._quotes[at]) for at in places], number.value
 
     def reserve(self, unit, messages):
         """Takes memory ahead for so many messages of a unit, which gets a client."""
         try:
             self.status(unit)
-        except PitchError:
+        except PitchError as error:
+            if error.code != Code.NO_CLIENT or unit > 255:
+                raise
             self.hear(bytes([8, 0, 0, unit, 0, 0, 0, 0]))
         self._ask("reserve", unit, messages)
 
     def status(self, unit):
+        """How far the client of a unit is."""
         told = Status()
         self._ask("status", unit, told)
         return told
@@ -169,6 +244,7 @@ class Client:
         return (told.price, told.shares) if told.there else None
 
     def order(self, unit, order_id):
+        """The open order of an id; None where none is."""
         told = Order()
         self._ask("order", unit, order_id, told)
         return told if told.there else None
@@ -205,45 +281,45 @@ class Client:
         self._ask("level", unit, padded(symbol, 8), ord(side), price, told)
         return told.shares
 
-    def close(self):
-        self.lib.pitch_c_close(self.raw)
 
-
-class End:
-    """The client's end of a unit with its sessions, for one thread at a time."""
+class End(Handle):
+    """The client's end of a unit with its sessions."""
 
     def __init__(self, library, unit, sub, user, password, hold=4096):
-        self.raw, self.lib = RawEnd(), opened(library)
+        super().__init__(library, "pitch_c_end_", RawEnd())
+        self._bytes = (U8 * 0)()
         self._ask("open", unit, padded(sub, 4), padded(user, 4), padded(password, 10), hold)
 
-    def _ask(self, name, *given):
-        code = getattr(self.lib, "pitch_c_end_" + name)(self.raw, *given)
-        if code:
-            raise PitchError(code)
-
     def hear(self, datagram):
-        told = Datagram()
+        """A datagram came on a line."""
+        told, datagram = Datagram(), as_bytes(datagram)
         self._ask("hear", datagram, len(datagram), told)
         return told
 
     def connected(self, session):
+        """A connection was made: its login waits."""
         self._ask("connected", session)
 
     def took(self, session, data):
         """Bytes of a connection came. It is lost where there was no memory for them."""
+        data = as_bytes(data)
         self._ask("took", session, data, len(data))
 
     def cut(self, session):
+        """A connection has ended."""
         self._ask("cut", session)
 
     def second(self):
+        """A second passed. Both connections are lost where there was no memory."""
         self._ask("second")
 
     def send(self, session, most=65536):
         """The first bytes that wait for a session: they wait no more."""
-        into, told = (U8 * most)(), Sent()
-        self._ask("send", session, into, most, told)
-        return bytes(into[: told.count])
+        told = Sent()
+        if len(self._bytes) < most:
+            self._bytes = (U8 * most)()
+        self._ask("send", session, self._bytes, most, told)
+        return ctypes.string_at(self._bytes, told.count)
 
     def connection(self, session):
         """Whether a connection stands."""
@@ -252,22 +328,22 @@ class End:
         return bool(told.value)
 
     def status(self):
+        """How far the client is."""
         told = Status()
         self._ask("status", told)
         return told
 
     def best(self, symbol, side):
+        """The best price with its shares; None where none is."""
         told = Best()
         self._ask("best", padded(symbol, 8), ord(side), told)
         return (told.price, told.shares) if told.there else None
 
     def order(self, order_id):
+        """The open order of an id; None where none is."""
         told = Order()
         self._ask("order", order_id, told)
         return told if told.there else None
-
-    def close(self):
-        self.lib.pitch_c_end_close(self.raw)
 
 
 def shown(best):
@@ -278,13 +354,13 @@ def main():
     client = Client(sys.argv[1])
     rest = memoryview(sys.stdin.buffer.read())
     while rest:
-        rest = rest[client.hear(bytes(rest[:65535])).used :]
+        length = int.from_bytes(rest[:2], "little")
+        rest = rest[client.hear(rest[: max(length, 8)]).used :]
     for unit in range(256):
         try:
             status = client.status(unit)
         except PitchError:
             continue
-        word = "current" if status.state == 2 else "behind"
         best = {side: client.best(unit, "ACME", side) for side in "BS"}
         for order in client.orders(unit):
             side, symbol = chr(order.side), bytes(order.symbol)
@@ -293,7 +369,7 @@ def main():
         if any(it and it[1] for it in best.values()):
             sys.exit("a best price has other shares")
         bid, offer = (shown(client.best(unit, "ACME", side)) for side in "BS")
-        print(f"unit {unit} {word} at {status.reach}: bid {bid}, offer {offer}")
+        print(f"unit {unit} {status.word} at {status.reach}: bid {bid}, offer {offer}")
     client.close()
 
 

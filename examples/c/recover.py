@@ -19,7 +19,7 @@ def message(n):
 
 def print_status(end, when):
     status = end.status()
-    print(f"{when}: {'current' if status.state == 2 else 'behind'} at {status.reach} of {status.top}")
+    print(f"{when}: {status.word} at {status.reach} of {status.top}")
 
 
 def log_in(end):
