@@ -1,6 +1,6 @@
 //! What crates/own_client does, from Rust; and that the orders at a best price have its shares.
 mod pitch_client;
-use pitch_client::{Client, Order, TRUNCATED};
+use pitch_client::{BEHIND, CURRENT, Client, Code, Order};
 use std::io::Read;
 
 fn main() {
@@ -19,7 +19,7 @@ fn main() {
                 Err(code) => break code,
             }
         };
-        assert_eq!(code, TRUNCATED);
+        assert_eq!(code, Code::TRUNCATED);
         rest.drain(..at);
     }
     assert!(rest.is_empty());
@@ -38,7 +38,11 @@ fn main() {
             None => "none".to_string(),
         };
         let (bid, offer) = (side(b'B'), side(b'S'));
-        let word = if status.state == 2 { "current" } else { "behind" };
+        let word = match status.state {
+            CURRENT => "current",
+            BEHIND => "behind",
+            _ => "silent",
+        };
         println!("unit {unit} {word} at {}: bid {bid}, offer {offer}", status.reach);
     }
 }

@@ -6,7 +6,7 @@ struct Raw {
     mark: u64,
 }
 
-/// How far a client is.
+/// How far a client is: its `state` is `SILENT`, `CURRENT` or `BEHIND`.
 #[repr(C)]
 #[derive(Clone, Copy, Debug, Default, PartialEq, Eq)]
 pub struct Status {
@@ -15,6 +15,10 @@ pub struct Status {
     pub top: u32,
     spare: [u32; 5],
 }
+
+pub const SILENT: u32 = 1;
+pub const CURRENT: u32 = 2;
+pub const BEHIND: u32 = 3;
 
 #[repr(C)]
 #[derive(Clone, Copy, Default)]
@@ -200,16 +204,59 @@ unsafe extern "C" {
     fn pitch_c_end_order(end: *mut RawEnd, id: u64, told: *mut Order) -> u32;
 }
 
+const ABI: u32 = 3;
+
 /// Why a call had no answer: a `pitch_code` of the header, never 0.
 #[derive(Clone, Copy, Debug, PartialEq, Eq)]
 pub struct Code(pub u32);
 
-pub const TRUNCATED: Code = Code(5);
+impl Code {
+    pub const CLOSED: Code = Code(1);
+    pub const IS_OPEN: Code = Code(2);
+    pub const NO_MEMORY: Code = Code(3);
+    pub const BAD_HOLD: Code = Code(4);
+    pub const TRUNCATED: Code = Code(5);
+    pub const NOT_A_BLOCK: Code = Code(6);
+    pub const NO_CLIENT: Code = Code(7);
+    pub const NO_SIDE: Code = Code(8);
+    pub const NULL: Code = Code(9);
+    pub const OTHER_ABI: Code = Code(10);
+    pub const BAD_UNIT: Code = Code(11);
+    pub const NO_SESSION: Code = Code(12);
+    /// The block was heard, but there was no memory to tell its quotes.
+    pub const UNTOLD: Code = Code(13);
+}
 
-/// The block was heard, but there was no memory to tell its quotes.
-pub const UNTOLD: Code = Code(13);
+impl std::fmt::Display for Code {
+    fn fmt(&self, f: &mut std::fmt::Formatter<'_>) -> std::fmt::Result {
+        f.write_str(match *self {
+            Code::CLOSED => "it is closed",
+            Code::IS_OPEN => "it is open already",
+            Code::NO_MEMORY => "out of memory",
+            Code::BAD_HOLD => "the hold is not from 1 to 65536",
+            Code::TRUNCATED => "truncated",
+            Code::NOT_A_BLOCK => "not a block",
+            Code::NO_CLIENT => "no such unit",
+            Code::NO_SIDE => "no such side",
+            Code::NULL => "a null pointer",
+            Code::OTHER_ABI => "the library is of another header",
+            Code::BAD_UNIT => "the unit is not from 1 to 255",
+            Code::NO_SESSION => "no such session",
+            Code::UNTOLD => "heard, with no memory to tell quotes",
+            Code(other) => return write!(f, "unknown code {other}"),
+        })
+    }
+}
 
-const OTHER_ABI: Code = Code(10);
+impl std::error::Error for Code {}
+
+/// The name of a symbol as orders have it, with spaces at its end; None where it is empty or longer
+/// than eight bytes.
+pub fn symbol(name: &str) -> Option<[u8; 8]> {
+    let mut symbol = [b' '; 8];
+    symbol.get_mut(..name.len())?.copy_from_slice(name.as_bytes());
+    (!name.is_empty()).then_some(symbol)
+}
 
 fn answered(code: u32) -> Result<(), Code> {
     if code == 0 { Ok(()) } else { Err(Code(code)) }
@@ -229,8 +276,8 @@ impl Client {
     pub fn open(hold: u32, levels: bool) -> Result<Client, Code> {
         let mut raw = Raw { at: std::ptr::null_mut(), mark: 0 };
         // SAFETY: it takes nothing.
-        if unsafe { pitch_c_abi() } != 3 {
-            return Err(OTHER_ABI);
+        if unsafe { pitch_c_abi() } != ABI {
+            return Err(Code::OTHER_ABI);
         }
         // SAFETY: a closed client, which nothing else refers to.
         answered(unsafe { pitch_c_open(&mut raw, hold, levels.into()) })?;
@@ -246,16 +293,17 @@ impl Client {
         Ok(told)
     }
 
-    /// Hears a block, and writes its quotes, as many as fit. It tells how many there are.
+    /// Hears a block, and writes its quotes, as many as fit. It tells how many there are, or None
+    /// where the block was heard and there was no memory to tell its quotes.
     pub fn hear_quoted(
         &mut self,
         bytes: &[u8],
         quotes: &mut [Quote],
-    ) -> Result<(Heard, u64), Code> {
+    ) -> Result<(Heard, Option<u64>), Code> {
         let (mut told, mut number) = (Heard::default(), 0);
         let (at, len) = (quotes.as_mut_ptr(), quotes.len());
         // SAFETY: as above; no more than the slice is written.
-        answered(unsafe {
+        let heard = answered(unsafe {
             pitch_c_hear_quoted(
                 &mut self.raw,
                 bytes.as_ptr(),
@@ -265,13 +313,17 @@ impl Client {
                 len,
                 &mut number,
             )
-        })?;
-        Ok((told, number))
+        });
+        match heard {
+            Ok(()) => Ok((told, Some(number))),
+            Err(Code::UNTOLD) => Ok((told, None)),
+            Err(code) => Err(code),
+        }
     }
 
     /// Takes memory ahead for so many messages of a unit, which gets a client where it has none.
     pub fn reserve(&mut self, unit: u8, messages: u32) -> Result<(), Code> {
-        if self.status(unit).is_err() {
+        if self.status(unit) == Err(Code::NO_CLIENT) {
             self.hear(&[8, 0, 0, unit, 0, 0, 0, 0])?;
         }
         // SAFETY: as above.
@@ -393,8 +445,8 @@ impl End {
     pub fn open(unit: u8, account: &Account, hold: u32) -> Result<End, Code> {
         let mut raw = RawEnd { at: std::ptr::null_mut(), mark: 0 };
         // SAFETY: it takes nothing.
-        if unsafe { pitch_c_abi() } != 3 {
-            return Err(OTHER_ABI);
+        if unsafe { pitch_c_abi() } != ABI {
+            return Err(Code::OTHER_ABI);
         }
         let Account { sub, user, password } = account;
         // SAFETY: a closed end, which nothing else refers to.
