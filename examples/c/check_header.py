@@ -6,9 +6,9 @@
 The exports and their structs are read from the crate's source, and written in each language by the
 rules by which they cross: a `Global` is not passed, a slice is a pointer and a length, and a
 reference to a number, a struct or an array is a pointer. Each has to stand so in pitch_client.h,
-pitch_client.rs and pitch_client.py, but for comments, blanks and line ends. The codes have to be
-those of the header, and its list of codes and texts is as long as its numbers go. It writes what is
-not there, and its status is 1 where anything is not.
+pitch_client.rs and pitch_client.py, but for comments, blanks and line ends. The codes, the states
+and the ABI's number have to be those of all three, and the header's list of codes and texts is as
+long as its numbers go. It writes what is not there, and its status is 1 where anything is not.
 """
 import os
 import re
@@ -163,20 +163,54 @@ def wanted(language, structs="reports.rt", calls="lib.rt"):
         yield language.call(found[1], parameters(language, found[2]), told)
 
 
-def wrong_codes(header):
+def source_codes():
+    """The codes of the source and those of the header alone, and the ABI's number."""
     source = text(SRC, "codes.rt")
     codes = {name: int(n) for name, n in re.findall(r"pub const (\w+): u32 = (\d+);", source)}
     abi = codes.pop("ABI")
-    there = {name: int(n) for name, n in re.findall(r"PITCH_(\w+) = (\d+),? *(?=/|\n)", header)}
-    states = {"SILENT", "CURRENT", "BEHIND"}
-    there = {name: n for name, n in there.items() if name not in states}
-    if there != {**codes, **OF_HEADER_ALONE}:
-        yield f"the codes {sorted({**codes, **OF_HEADER_ALONE}.items(), key=lambda it: it[1])}"
-    if f"#define PITCH_ABI {abi}\n" not in header:
-        yield f"#define PITCH_ABI {abi}"
+    return {**codes, **OF_HEADER_ALONE}, abi
+
+
+def source_states():
+    """The number of each state, as the source tells it."""
+    found = re.findall(r"Status::(\w+)[^=]*=> StatusOut \{\s*state: (\d+)", text(SRC, "reports.rt"))
+    return {name.upper(): int(n) for name, n in found}
+
+
+def numbers_in(there, pattern):
+    return {name: int(n) for name, n in re.findall(pattern, there, re.M)}
+
+
+def wrong_codes():
+    """Each file with the codes that it has not, and the texts of codes."""
+    codes, _ = source_codes()
+    errors = {name: n for name, n in codes.items() if n}
+    header, rust, python = (text(HERE, it.file) for it in (C, Rust, Python))
+    of_header = numbers_in(header, r"PITCH_(\w+) = (\d+),? *(?=/|\n)")
+    of_rust = numbers_in(rust, r"pub const (\w+): Code = Code\((\d+)\);")
+    of_python = numbers_in(python, r"^    ([A-Z_]+) = (\d+)$")
+    for file, there, wanted in ((C.file, of_header, codes), (Rust.file, of_rust, errors),
+                                (Python.file, of_python, errors)):
+        if there != wanted:
+            yield file, f"the codes {sorted(wanted.items(), key=lambda it: it[1])}"
     words = re.search(r"words\[\] = \{(.*?)\};", header, re.S)[1]
-    if len(re.findall(r'"[^"]*"', words)) != len(there):
-        yield f"a text for each of {len(there)} codes"
+    if len(re.findall(r'"[^"]*"', words)) != len(codes):
+        yield C.file, f"a text for each of {len(codes)} codes"
+
+
+def wrong_numbers():
+    """Each file with the line that it has not of the states and of the ABI's number."""
+    _, abi = source_codes()
+    states = source_states()
+    of_c = ", ".join(f"PITCH_{name} = {n}" for name, n in states.items())
+    numbers = ", ".join(str(n) for n in states.values())
+    lines = [(C.file, f"#define PITCH_ABI {abi}\n"), (Rust.file, f"const ABI: u32 = {abi};\n"),
+             (Python.file, f"\nABI = {abi}\n"), ("libpitch.map", f"PITCH_{abi} {{\n"),
+             ("check.sh", f"libpitch.so.{abi} "), ("README.md", f"libpitch.so.{abi} "),
+             (C.file, f"enum pitch_state {{ {of_c} }};\n"),
+             (Python.file, f"\n{', '.join(states)} = {numbers}\n")]
+    lines += [(Rust.file, f"pub const {name}: u32 = {n};\n") for name, n in states.items()]
+    return [(file, line.strip()) for file, line in lines if line not in text(HERE, file)]
 
 
 def sessions():
@@ -197,7 +231,7 @@ def main():
         if file == ENDS["file"]:
             of_ends += sessions()
         missing += [(file, it) for it in of_ends if plain(it) not in there]
-    missing += [(C.file, it) for it in wrong_codes(text(HERE, C.file))]
+    missing += [*wrong_codes(), *wrong_numbers()]
     for file, it in missing:
         print(f"examples/c/{file}: not there: {it}")
     return 1 if missing else 0
