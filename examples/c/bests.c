@@ -31,7 +31,7 @@ static void print_unit(pitch_client *client, uint32_t unit, const uint8_t *symbo
     if (code == PITCH_NO_CLIENT) return;
     must(code);
     printf("unit %" PRIu32 " %s at %" PRIu32 ": ", unit,
-           status.state == PITCH_CURRENT ? "current" : "behind", status.reach);
+           pitch_state_word(status.state), status.reach);
     print_side(client, unit, symbol, 'B');
     print_side(client, unit, symbol, 'S');
     printf("\n");

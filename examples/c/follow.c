@@ -63,7 +63,7 @@ int main(int argc, char **argv) {
         if (code == PITCH_NO_CLIENT) continue;
         if (code != PITCH_OK) return failed("status", code);
         printf("unit %" PRIu32 " %s at %" PRIu32 ": ", unit,
-               status.state == PITCH_CURRENT ? "current" : "behind", status.reach);
+               pitch_state_word(status.state), status.reach);
         print_side(&client, unit, 'B', "bid");
         print_side(&client, unit, 'S', ", offer");
         printf("\n");

@@ -276,6 +276,14 @@ static inline uint32_t pitch_level(pitch_client *client, uint32_t unit, const ui
     return pitch_c_level(client, unit, symbol, side, price, told);
 }
 
+/* A word for a pitch_state. */
+static inline const char *pitch_state_word(uint32_t state) {
+    return state == PITCH_SILENT    ? "silent"
+           : state == PITCH_CURRENT ? "current"
+           : state == PITCH_BEHIND  ? "behind"
+                                    : "unknown";
+}
+
 static inline const char *pitch_strerror(uint32_t code) {
     static const char *const words[] = {
         "ok", "the client is closed", "the client is open already", "out of memory",

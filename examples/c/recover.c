@@ -40,7 +40,7 @@ static void print_status(const char *when) {
     pitch_status_out told;
     ok("status", pitch_end_status(&end, &told));
     printf("%s: %s at %" PRIu32 " of %" PRIu32 "\n", when,
-           told.state == PITCH_CURRENT ? "current" : "behind", told.reach, told.top);
+           pitch_state_word(told.state), told.reach, told.top);
 }
 
 /* A connection with the proxy is made: it takes the login, and accepts it. */
