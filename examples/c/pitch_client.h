@@ -202,8 +202,8 @@ static inline uint32_t pitch_hear_quoted(pitch_client *client, const uint8_t *by
 /* Takes memory ahead for so many messages of a unit: pitch_hear then takes none for a block whose
  * messages, with those that are held, are no more. A unit that no block named gets its client by a
  * block without messages and without a sequence, which tells it of nothing. More than the orders
- * that a book can have is PITCH_NO_MEMORY. In a client that was opened with price levels, those that
- * went for want of memory are made anew from the open orders, which takes some microseconds for
+ * that a book can have is PITCH_NO_MEMORY. In a client that was opened with price levels, those
+ * that went for want of memory are made anew from the open orders, which takes some microseconds for
  * each. */
 static inline uint32_t pitch_reserve(pitch_client *client, uint32_t unit, uint32_t messages) {
     const uint8_t silent[8] = { 8, 0, 0, (uint8_t)unit, 0, 0, 0, 0 };

@@ -134,8 +134,8 @@ class PitchError(Exception):
 
 def opened(library):
     """The library with its calls declared, where it is one of this file's."""
-    # A PyDLL keeps the interpreter's lock in each call, so that the calls of two threads take turns:
-    # a client is for one call at a time. A Python without that lock wants one of the caller's.
+    # A PyDLL keeps the interpreter's lock in each call, so that calls of two threads take turns: a
+    # client is for one at a time. A Python without that lock wants one of the caller's.
     lib = ctypes.PyDLL(library)
     for name, (given, told) in {**CALLS, **END_CALLS}.items():
         getattr(lib, name).argtypes = given
