@@ -1,5 +1,5 @@
 /* Calls in every wrong order and with bytes that are no feed; ends with the number of the first
- * answer that is not the one wanted, or 0. A seed may be given. */
+ * answer that is not the one wanted, or 0. A seed may be given. What is not told has to stay. */
 #include "pitch_client.h"
 
 #include <stdlib.h>
@@ -14,6 +14,29 @@ static uint64_t next(void) {
     return state;
 }
 
+static int is_kept(const void *at, size_t len) {
+    for (size_t k = 0; k < len; k++)
+        if (((const uint8_t *)at)[k] != 0x5a) return 0;
+    return 1;
+}
+
+/* A client holds as many messages as it was asked to: the next one overflows. Answers whether. */
+static int holds(uint32_t hold) {
+    pitch_client c = PITCH_CLIENT_INIT;
+    pitch_heard_out h;
+    uint8_t block[8 + 3] = { 11, 0, 1, 1, 0, 0, 0, 0, 3, 0x99, 0 };
+    uint32_t overflows = 0;
+    if (pitch_open(&c, hold, 0) != PITCH_OK) return 0;
+    for (uint32_t k = 0; k <= hold && !overflows; k++) {
+        for (int at = 0; at < 4; at++) block[4 + at] = (uint8_t)((k + 2) >> 8 * at);
+        if (pitch_hear(&c, block, sizeof block, &h) != PITCH_OK) return 0;
+        overflows = h.overflows;
+        if ((k == hold) != (overflows == 1)) return 0;
+    }
+    pitch_close(&c);
+    return 1;
+}
+
 int main(int argc, char **argv) {
     pitch_client c = PITCH_CLIENT_INIT;
     pitch_heard_out h;
@@ -26,7 +49,11 @@ int main(int argc, char **argv) {
     uint64_t n = 77;
     const uint8_t sym[8] = "ACME    ";
     if (argc > 1) state ^= strtoull(argv[1], NULL, 10) * 0x9e3779b97f4a7c15ull;
-    /* closed */
+    memset(&h, 0x5a, sizeof h), memset(&s, 0x5a, sizeof s), memset(&b, 0x5a, sizeof b);
+    memset(&o, 0x5a, sizeof o), memset(&l, 0x5a, sizeof l), memset(os, 0x5a, sizeof os);
+    memset(st, 0x5a, sizeof st), memset(ls, 0x5a, sizeof ls), memset(qs, 0x5a, sizeof qs);
+    /* closed, which it stays */
+    pitch_close(&c);
     if (pitch_hear(&c, sym, 8, &h) != PITCH_CLOSED) return 1;
     if (pitch_status(&c, 1, &s) != PITCH_CLOSED) return 2;
     if (pitch_best(&c, 1, sym, 'B', &b) != PITCH_CLOSED) return 3;
@@ -34,7 +61,6 @@ int main(int argc, char **argv) {
     if (pitch_orders(&c, 1, os, 3, &n) != PITCH_CLOSED || pitch_states(&c, 1, st, 2, &n) != PITCH_CLOSED) return 40;
     if (pitch_levels(&c, 1, sym, 'B', ls, 2, &n) != PITCH_CLOSED || pitch_level(&c, 1, sym, 'B', 1, &l) != PITCH_CLOSED) return 51;
     if (pitch_hear_quoted(&c, sym, 8, &h, qs, 3, &n) != PITCH_CLOSED) return 52;
-    pitch_close(&c);
     /* the hold */
     if (pitch_open(&c, 0, 1) != PITCH_BAD_HOLD) return 4;
     if (pitch_open(&c, 65537, 1) != PITCH_BAD_HOLD) return 5;
@@ -53,7 +79,13 @@ int main(int argc, char **argv) {
     if (pitch_states(&c, 1, st, 2, &n) != PITCH_NO_CLIENT || pitch_states(&c, 0xffffffffu, st, 2, &n) != PITCH_NO_CLIENT) return 42;
     if (pitch_levels(&c, 256, sym, 'S', ls, 2, &n) != PITCH_NO_CLIENT || pitch_level(&c, 1, sym, 'S', 1, &l) != PITCH_NO_CLIENT) return 53;
     if (pitch_levels(&c, 1, sym, 'x', ls, 2, &n) != PITCH_NO_SIDE || pitch_level(&c, 1, sym, 0, 1, &l) != PITCH_NO_SIDE) return 54;
+    if (pitch_hear(&c, sym, 7, &h) != PITCH_TRUNCATED) return 67;
+    if (pitch_hear_quoted(&c, sym, 7, &h, qs, 3, &n) != PITCH_TRUNCATED) return 72;
     if (n != 77) return 43;
+    if (!is_kept(&h, sizeof h) || !is_kept(&s, sizeof s) || !is_kept(&b, sizeof b)) return 68;
+    if (!is_kept(&o, sizeof o) || !is_kept(&l, sizeof l) || !is_kept(os, sizeof os)) return 69;
+    if (!is_kept(st, sizeof st) || !is_kept(ls, sizeof ls) || !is_kept(qs, sizeof qs)) return 70;
+    if (!holds(1) || !holds(2) || !holds(65536)) return 71;
     /* a unit that was reserved is silent, and has nothing */
     if (pitch_reserve(&c, 200, 1000) != PITCH_OK || pitch_status(&c, 200, &s) != PITCH_OK) return 29;
     if (s.state != PITCH_SILENT || s.reach || s.top || s.spare[0] || s.spare[4]) return 32;

@@ -13,6 +13,12 @@ static uint64_t next(void) {
     return state;
 }
 
+static int is_kept(const void *at, size_t len) {
+    for (size_t k = 0; k < len; k++)
+        if (((const uint8_t *)at)[k] != 0x5a) return 0;
+    return 1;
+}
+
 int main(int argc, char **argv) {
     pitch_end e = PITCH_END_INIT;
     pitch_datagram_out d;
@@ -25,7 +31,10 @@ int main(int argc, char **argv) {
     const uint8_t *sub = (const uint8_t *)"0001", *user = (const uint8_t *)"FEED";
     const uint8_t *word = (const uint8_t *)"PITCH     ";
     if (argc > 1) state ^= strtoull(argv[1], NULL, 10) * 0x9e3779b97f4a7c15ull;
-    /* closed */
+    memset(&d, 0x5a, sizeof d), memset(&t, 0x5a, sizeof t), memset(&s, 0x5a, sizeof s);
+    memset(&b, 0x5a, sizeof b), memset(&o, 0x5a, sizeof o), memset(&stands, 0x5a, sizeof stands);
+    memset(bytes, 0x5a, sizeof bytes);
+    /* closed, which it stays */
     if (pitch_end_hear(&e, bytes, 0, &d) != PITCH_CLOSED || pitch_end_second(&e) != PITCH_CLOSED) return 1;
     if (pitch_end_connected(&e, 1) != PITCH_CLOSED || pitch_end_cut(&e, 9) != PITCH_CLOSED) return 2;
     if (pitch_end_took(&e, 1, bytes, 0) != PITCH_CLOSED || pitch_end_send(&e, 1, NULL, 0, &t) != PITCH_CLOSED) return 3;
@@ -49,6 +58,9 @@ int main(int argc, char **argv) {
     if (pitch_end_best(&e, word, 'x', &b) != PITCH_NO_SIDE) return 16;
     if (pitch_end_hear(&e, NULL, 1, &d) != PITCH_NULL || pitch_end_second(NULL) != PITCH_NULL) return 17;
     if (pitch_end_send(&e, 1, NULL, 1, &t) != PITCH_NULL || pitch_end_status(&e, NULL) != PITCH_NULL) return 18;
+    if (!is_kept(&d, sizeof d) || !is_kept(&t, sizeof t) || !is_kept(&s, sizeof s)) return 34;
+    if (!is_kept(&b, sizeof b) || !is_kept(&o, sizeof o)) return 35;
+    if (!is_kept(&stands, sizeof stands) || !is_kept(bytes, sizeof bytes)) return 36;
     /* without a connection nothing waits, and bytes are of none */
     if (pitch_end_took(&e, 2, bytes, sizeof bytes) != PITCH_OK || pitch_end_cut(&e, 1) != PITCH_OK) return 19;
     if (pitch_end_send(&e, 1, NULL, 0, &t) != PITCH_OK || t.count || t.left) return 20;
