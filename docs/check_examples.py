@@ -50,7 +50,7 @@ BUILDS = re.compile(r"# proves and builds it")
 KIT = re.compile(r"\brt \w|--unproved")
 # What the kit makes, by what a recipe that needs it has in it.
 MADE = {
-    "crates/pitch_c/out/libpitch_c.a": re.compile(r"libpitch_c\.a|libpitch\.so|\./follow "),
+    "crates/pitch_c/out/libpitch_c.a": re.compile(r"libpitch_c\.a|libpitch\.so|\./follow |pitch-library"),
     "crates/own_client/out/own_client": re.compile(r"own_client/out/"),
     "crates/pitch_live/out/pitch_live": re.compile(r"\./pitch_live "),
 }

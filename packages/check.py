@@ -66,6 +66,9 @@ def of_faults():
             ('dist.sh', folder + '/new', '--program', os.path.join(HERE, 'dist.sh')),
             ('deb.sh',), ('deb.sh', folder), ('container.sh', folder), ('texts.py',),
             ('container.sh', folder, folder + '/new.tar'),
+            ('library.sh', '--what'), ('library.sh', folder, '--library'),
+            ('library.sh', folder + '/new', '--library', '/bin/sh'),
+            ('library.sh', folder + '/new', '--library', folder + '/none'),
         ):
             status, _, said = script(name, *words)
             is_one = len(said.splitlines()) == 1 and said.startswith(name + ': ')
