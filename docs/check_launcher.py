@@ -9,7 +9,7 @@ what bench/prove_program.py keeps of it. Nothing is proved. A case that wants a 
 the path is left out. The last line is `N passed, M failed`; the exit status is 0 only where none
 failed.
 """
-import gzip, os, shutil, signal, subprocess, sys, tempfile, time
+import gzip, os, pty, shutil, signal, subprocess, sys, tempfile, time
 from pathlib import Path
 
 TOP = Path(__file__).resolve().parent.parent
@@ -126,6 +126,14 @@ def prepared(folder):
     return tree, {**os.environ, 'PATH': path, 'STAND_IN': str(folder / 'program')}
 
 
+def read_of(terminal):
+    """What comes next at the near end of a terminal; nothing once nobody has the far end."""
+    try:
+        return os.read(terminal, 4096)
+    except OSError:
+        return b''
+
+
 class Checks:
     def __init__(self, folder):
         self.tree, self.environ = prepared(folder)
@@ -224,6 +232,21 @@ class Checks:
         done = subprocess.run(['./pitch_live', '--help'], capture_output=True, **how)
         self.hold('help of pitch_live', done.returncode == 0 and 'pitch_live listen' in done.stdout, done)
 
+    def behind(self):
+        """./pitch_live in the background of a terminal: it goes on, and ends by a signal."""
+        words = 'set -m; ./pitch_live listen & sleep 2; kill -INT %1; wait %1; echo ended $?'
+        process, terminal = pty.fork()
+        if process == 0:
+            os.chdir(self.tree)
+            os.execvpe('bash', ['bash', '--norc', '-c', words], self.environ)
+        said = b''
+        while piece := read_of(terminal):
+            said += piece
+        status = os.WEXITSTATUS(os.waitpid(process, 0)[1])
+        os.close(terminal)
+        done = subprocess.CompletedProcess('', status, said.decode(), '')
+        self.hold('in the background', 'listen: 0' in done.stdout and 'ended 0' in done.stdout, done)
+
 
 def main():
     with tempfile.TemporaryDirectory() as folder:
@@ -232,6 +255,7 @@ def main():
         checks.proofs(Path(folder))
         checks.words()
         checks.live()
+        checks.behind()
     print(f'{checks.passed} passed, {checks.failed} failed')
     return 1 if checks.failed else 0
 
