@@ -65,14 +65,20 @@ fn take_given(number: u16) -> io::Result<UdpSocket> {
     Ok(UdpSocket::from_std(socket))
 }
 
-/// Opens a port.
-pub(crate) fn open_port<R: Net>(rt: &R, port: Port) -> io::Result<UdpSocket> {
-    let socket = match port {
-        Port::Bound(addr) => UdpSocket::bind(rt, addr)?,
-        Port::Given(number) => take_given(number)?,
-    };
+// Binds an address of this machine. Its buffer is asked to be large.
+fn bind<R: Net>(rt: &R, addr: SocketAddr) -> io::Result<UdpSocket> {
+    let socket = UdpSocket::bind(rt, addr)?;
     ask_for_room(&socket, Buffer::Received);
     Ok(socket)
+}
+
+/// Opens a port. A socket that was handed in keeps its buffer: its giver may have made that larger
+/// than the system would grant here.
+pub(crate) fn open_port<R: Net>(rt: &R, port: Port) -> io::Result<UdpSocket> {
+    match port {
+        Port::Bound(addr) => bind(rt, addr),
+        Port::Given(number) => take_given(number),
+    }
 }
 
 /// Takes those of the descriptors 0 to 2 that are free. A socket there would be taken for a
