@@ -44,6 +44,12 @@ fn open_line<R: net::Net>(rt: &R, registry: &Registry, port: Port) -> io::Result
     Ok(socket)
 }
 
+// Whether a sender is among those that are named. An IPv4 address is itself also within one of IPv6.
+fn is_named(from: &[IpAddr], sender: IpAddr) -> bool {
+    let sender = sender.to_canonical();
+    from.iter().any(|named| named.to_canonical() == sender)
+}
+
 // Takes the next datagram of a socket. One of a sender who isn't named is as one without bytes.
 fn take(socket: &UdpSocket, from: &[IpAddr], into: &mut [u8]) -> io::Result<usize>
     ensures { IfOk result (λ count. count ≤ length into.new) }
@@ -52,7 +58,7 @@ fn take(socket: &UdpSocket, from: &[IpAddr], into: &mut [u8]) -> io::Result<usiz
         return socket.recv(into);
     }
     let (count, sender) = socket.recv_from(into)?;
-    if from.contains(&sender.ip().to_canonical()) {
+    if is_named(from, sender.ip()) {
         Ok(count)
     } else {
         Ok(0)
