@@ -26,6 +26,7 @@ from pathlib import Path
 
 TOP = Path(__file__).resolve().parent.parent
 WIDEST, WIDEST_CLAUSE = 100, 112
+NO_CLAUSE = "no clause"
 LONGEST_MAP = 300
 CODE = (".rt", ".antt", ".py", ".sh", ".awk")
 FOLDERS = r"crates|docs|examples|bench|packages|src|specs|proofs|must-fail|\.ci"
@@ -200,7 +201,8 @@ def check_calls(crate, page):
     """The tables of a crate's README: its calls, each with clauses that it has."""
     told, calls = {}, []
     for number, cells in page.cells(["Call", "Clause"]):
-        clauses = quoted(cells[1]) + ["-"] * ("-" in re.sub(r"`[^`]*`", "", cells[1]))
+        unquoted = re.sub(r"`[^`]*`", "", cells[1])
+        clauses = quoted(cells[1]) + [it for it in ("-", NO_CLAUSE) if it in unquoted]
         if cells[0]:
             calls, prefix = [], None
             for name in quoted(cells[0]):
@@ -217,13 +219,18 @@ def check_calls(crate, page):
             told.setdefault(id(it), set()).update(clauses)
     for it in crate.exported():
         name = f"{it.owner}::{it.name}" if it.owner else it.name
-        if untold := [clause for clause in it.clauses if clause not in told.get(id(it), ())]:
+        if untold := [clause for clause in clauses_of(it) if clause not in told.get(id(it), ())]:
             fault(page.path, 1, f"does not tell clauses of {name}: {', '.join(untold)}")
 
 
-# A method without clauses has those of its trait.
+# A method without clauses has those of its trait; of any other the table says that it has none.
+def clauses_of(function):
+    return function.clauses or ([] if function.is_of_trait else [NO_CLAUSE])
+
+
 def has(function, clauses):
-    return not function.clauses or any(it in function.clauses for it in clauses)
+    own = clauses_of(function)
+    return not own or any(it in own for it in clauses)
 
 
 def check_map(page, crates):

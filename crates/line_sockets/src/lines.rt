@@ -44,7 +44,8 @@ fn open_line<R: net::Net>(rt: &R, registry: &Registry, port: Port) -> io::Result
     Ok(socket)
 }
 
-// Whether a sender is among those that are named. An IPv4 address is itself also within one of IPv6.
+// Whether a sender is one of those that are named. An IPv4 address is itself also within one of
+// IPv6.
 fn is_named(from: &[IpAddr], sender: IpAddr) -> bool {
     let sender = sender.to_canonical();
     from.iter().any(|named| named.to_canonical() == sender)
