@@ -1,6 +1,6 @@
 //! Connections by their numbers.
 
-ghost use Rattle.std.specs.Prelude.{◌≡◌, ◌≢◌, ◌<◌, length, set, true, false, IfOk};
+ghost use Rattle.std.specs.Prelude.{◌≡◌, ◌≢◌, ◌↔◌, ◌<◌, length, set, true, false, IfOk};
 ghost use Rattle.std.specs.Prelude.{None, replicate, take, drop, not, is_none};
 ghost use Rattle.std.specs.List.{list_any};
 ghost use Rattle.live_net.specs.LiveCalls.{PeerPutWithin, PeerTakenWithin};
@@ -86,7 +86,7 @@ impl Connections {
 
     /// Has this connection stand at a number, and answers whether there is such a number.
     pub fn set(&mut self, at: u16, connection: Connection) -> bool
-        ensures there { result ≡ true → at < length self.old }
+        ensures there { result ≡ true ↔ at < length self.old }
         ensures stands { self.new ≡ set self.old at result }
     {
         match self.slots.get_mut(usize::from(at)) {
