@@ -9,7 +9,7 @@ what bench/prove_program.py keeps of it. Nothing is proved. A case that wants a 
 the path is left out. The last line is `N passed, M failed`; the exit status is 0 only where none
 failed.
 """
-import gzip, os, pty, shutil, signal, subprocess, sys, tempfile, time
+import gzip, os, pty, re, shutil, signal, subprocess, sys, tempfile, time
 from pathlib import Path
 
 TOP = Path(__file__).resolve().parent.parent
@@ -229,8 +229,14 @@ class Checks:
                 self.hold(f'an end by {signum.name}', waits and (run.returncode, out) == (5, 'listen --a X: 0\n'), done)
         done = subprocess.run(['./pitch_live', 'listen'], input='four', capture_output=True, **how)
         self.hold('an end of a pipe', (done.returncode, done.stdout) == (5, 'listen: 4\n'), done)
-        done = subprocess.run(['./pitch_live', '--help'], capture_output=True, **how)
-        self.hold('help of pitch_live', done.returncode == 0 and 'pitch_live listen' in done.stdout, done)
+        done = subprocess.run(['./pitch_live', '--help'], input='', capture_output=True, **how)
+        rows = re.findall(r'^\| `--.*?\|', (TOP / 'docs/LIVE.md').read_text(encoding='utf-8'), re.M)
+        options = set(re.findall(r'--[a-z]+', ' '.join(rows)))
+        is_whole = options and options <= set(re.findall(r'--[a-z]+', done.stdout))
+        self.hold('help of pitch_live', done.returncode == 0 and is_whole, done)
+        done = subprocess.run(['./pitch_live', '--version'], input='', capture_output=True, **how)
+        is_said = done.returncode == 0 and re.search('^built [0-9a-f]{64}$', done.stdout, re.M)
+        self.hold('version of pitch_live', is_said, done)
 
     def behind(self):
         """./pitch_live in the background of a terminal: it goes on, and ends by a signal."""
