@@ -65,8 +65,8 @@ def man():
     lines += ['.PP', 'An option is', '.B \\-\\-hold 64', 'or', '.BR \\-\\-hold=64 ,', 'once.', '.SH EXIT STATUS']
     for status, when, cause in statuses():
         lines += ['.TP', '.B ' + status, roff(sentence(when, cause))]
-    lines += ['.SH SEE ALSO', 'The documents and examples that come with it, in /usr/share/doc/pitch where it',
-              'came as a package.']
+    lines += ['.SH SEE ALSO', 'The documents and examples that come with it, in',
+              '/usr/share/doc/pitch-feed where it came as a package.']
     return '\n'.join(lines) + '\n'
 
 
