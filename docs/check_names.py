@@ -11,7 +11,8 @@
 - No line of prose, of the code or of a definition is wider than 100 columns, but for one with a
   text in quotes, a row of a table or an attribute, and for a clause that `rt fmt` keeps on a line,
   which has up to 112.
-- README.md says how many must-fail edits there are.
+- README.md says how many must-fail edits there are and what they turn, and with LIVE.md how many
+  crates the programs have.
 - What a reader has to believe stands in a crate's `specs/` itself: the definitions that a top call,
   a law or a table of READING.md needs, by their imports. All others, which only the layers tell one
   another, stand in `specs/layers/`.
@@ -373,10 +374,42 @@ def check_sources(folder):
 
 
 def check_edits(page):
-    count = len(list(TOP.glob("crates/*/must-fail/*.edit")))
+    """How many edits there are, and what they turn: files of `specs/`, of `src/`, or of both."""
+    turned = []
+    for path in TOP.glob("crates/*/must-fail/*.edit"):
+        files = re.findall(r"^file: (\w+)/", path.read_text(encoding="utf-8"), re.M)
+        turned.append(("specs" in files, "src" in files))
+    both, definition, code = (turned.count(it) for it in ((True, True), (True, False), (False, True)))
     text = re.sub(r"\s+", " ", page.path.read_text(encoding="utf-8"))
-    if f"{count} edits in `crates/*/must-fail`" not in text:
-        fault(page.path, 1, f"there are {count} edits in crates/*/must-fail")
+    for said in (
+        f"{len(turned)} edits in `crates/*/must-fail`",
+        f"{both} turn a definition and its code alike",
+        f"{definition} a definition alone, and {code} the code alone",
+    ):
+        if said not in text:
+            fault(page.path, 1, f"does not say: {said}")
+
+
+def crates_below(name, crates):
+    """A crate, and all crates that it stands on."""
+    found, left = set(), [name]
+    while left:
+        if (one := left.pop()) in crates and one not in found:
+            found.add(one)
+            left += crates[one]
+    return found
+
+
+def check_programs(pages):
+    """How many crates the programs have, where README and LIVE say so."""
+    crates = read_crates()
+    own, live = crates_below("pitch", crates), crates_below("pitch_live", crates)
+    for page, said in (
+        (pages[TOP / "README.md"], f"the {len(own)} crates of the program"),
+        (pages[TOP / "docs/LIVE.md"], f"{len(live)} crates, of which {len(own & live)} are also"),
+    ):
+        if said not in re.sub(r"\s+", " ", page.path.read_text(encoding="utf-8")):
+            fault(page.path, 1, f"does not say: {said}")
 
 
 def main():
@@ -398,6 +431,7 @@ def main():
     check_map(pages[TOP / "docs/MAP.md"], crates)
     check_layers(check_reading(pages[TOP / "docs/READING.md"]))
     check_edits(pages[TOP / "README.md"])
+    check_programs(pages)
     print("\n".join([*faults, f"{len(pages)} documents, {len(faults)} faults"]))
     return 1 if faults else 0
 
