@@ -6,7 +6,8 @@
 - Every crate has a README.md, whose tables name each call that the crate exports with each of its
   clauses, and no others; MAP.md names every crate once, and no other, in at most 300 lines.
 - What stands in backticks as `crate::name`, `Type::name`, a name with an underscore or with two
-  capitals, or a file, is there; so is each definition in the tables of READING.md.
+  capitals, or a file, is there; so is each definition in the tables of READING.md, and each file
+  of that of FEED.md in the folder that it names.
 - Each relative link leads to a file, and its anchor to a heading there.
 - No line of prose, of the code or of a definition is wider than 100 columns, but for one with a
   text in quotes, a row of a table or an attribute, and for a clause that `rt fmt` keeps on a line,
@@ -248,6 +249,17 @@ def check_map(page, crates):
             fault(page.path, 1, f"no row for {name}")
 
 
+def check_rules(page):
+    """The table of rules: each file stands in the `specs/` that its row named last."""
+    for number, cells in page.cells(["Rule", "File"]):
+        folder = TOP
+        for name in quoted(cells[1]):
+            if found := re.match(r"crates/\w+/specs/", name):
+                folder, name = TOP / found[0], name[len(found[0]) :]
+            if not (folder / name).exists():
+                fault(page.path, number, f"no file {name} in {folder.relative_to(TOP)}")
+
+
 def words_of(paths):
     text = "\n".join(path.read_text(encoding="utf-8") for path in paths)
     return set(re.findall(r"\w+", re.sub(r"(//|--).*", "", text)))
@@ -430,6 +442,7 @@ def main():
         check_sources(crate.folder)
     check_map(pages[TOP / "docs/MAP.md"], crates)
     check_layers(check_reading(pages[TOP / "docs/READING.md"]))
+    check_rules(pages[TOP / "docs/FEED.md"])
     check_edits(pages[TOP / "README.md"])
     check_programs(pages)
     print("\n".join([*faults, f"{len(pages)} documents, {len(faults)} faults"]))
