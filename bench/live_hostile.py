@@ -16,7 +16,6 @@ in memory grows by at most 400 bytes a message from the first tenth of the run t
 line is `N passed, M failed`.
 """
 import argparse
-import os
 import random
 import select
 import socket

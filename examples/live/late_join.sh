@@ -10,7 +10,7 @@ trap 'kill $(jobs -p) 2> /dev/null; rm -rf -- "$folder"' EXIT
 places="--a 1@127.0.0.1:36501 --b 1@127.0.0.1:37501 --gap 1@127.0.0.1:38501
     --grp 1@127.0.0.1:36601 --spin 1@127.0.0.1:36701"
 account='--sub 0001 --user FEED --password PITCH'
-# The venue has sent its 2,000 messages within two seconds, and stays for ten more.
+# The venue has sent its 2,000 messages within two seconds, and stays for some eight more.
 "$live" serve $places $account --plan 4 --count 2000 --rate 2000 --kept 100 --after 8 \
     --report "$folder/report" &
 venue=$!
