@@ -5,9 +5,9 @@
 #     packages/dist.sh [FOLDER] [--program FILE [--live FILE]]
 #
 # FOLDER must not stand yet; it is pitch-VERSION where it is not given. The program is that of this
-# tree: ./pitch proves and builds it first where it is not built. FILE is another one, and ABOUT then
-# says that nobody looked of what it was built. The folder has pitch_live too, where that was built in
-# this tree (where a source is newer it is built anew), or is the FILE of --live.
+# tree: ./pitch proves and builds it first where it is not built. FILE is another one, and ABOUT
+# then says that nobody looked of what it was built. The folder has pitch_live too, where that was
+# built in this tree (where a source is newer it is built anew), or is the FILE of --live.
 set -eu
 fail() {
     echo "dist.sh: $1" >&2
@@ -50,12 +50,14 @@ for it in "${programs[@]}"; do
     [ "$(od -An -tx1 -j4 -N1 "$it")$(od -An -tx1 -j18 -N2 "$it")" = " 02 3e 00" ] ||
         fail "$it is no program of x86-64"
 done
-glibc=$(LC_ALL=C grep -aoh 'GLIBC_[0-9][0-9.]*' "${programs[@]}" | cut -d_ -f2 | sort -uV | tail -n 1)
+glibc=$(LC_ALL=C grep -aoh 'GLIBC_[0-9][0-9.]*' "${programs[@]}" | cut -d_ -f2 | sort -uV |
+    tail -n 1)
 in_git() { git -C "$root" "$@" 2> /dev/null || echo unknown; }
 commit=$(in_git describe --always --dirty --abbrev=40 --exclude '*')
 version=$(in_git show -s --format=%cd --date=format:%Y%m%d HEAD).$(echo "$commit" | cut -c1-8)
 case $commit in *-dirty) version=$version-dirty ;; esac
-kit=$(rt version 2> /dev/null) || kit=$(head -n 1 "$root/crates/pitch/out/build.of" 2> /dev/null) || kit=unknown
+kit=$(rt version 2> /dev/null) ||
+    kit=$(head -n 1 "$root/crates/pitch/out/build.of" 2> /dev/null) || kit=unknown
 
 folder=${folder:-pitch-$version}
 [ ! -e "$folder" ] || fail "$folder stands already"
@@ -69,10 +71,13 @@ folder=$(CDPATH='' cd -P -- "$folder" && pwd)
 install -m 755 -- "$program" "$folder/pitch"
 [ -z "$live" ] || install -m 755 -- "$live" "$folder/pitch_live"
 cp -- "$root/README.md" "$folder/"
-for page in CAPTURES FEED INCIDENTS INSTALL LIMITS LIVE; do cp -- "$root/docs/$page.md" "$folder/docs/"; done
+for page in CAPTURES FEED INCIDENTS INSTALL LIMITS LIVE; do
+    cp -- "$root/docs/$page.md" "$folder/docs/"
+done
 cp -- "$root/docs/quotes.png" "$folder/docs/"
 # Of the examples those in C want a library, which the kit builds.
-(cd -- "$root" && find examples -name __pycache__ -prune -o -path examples/c -prune -o -type f -print0 |
+(cd -- "$root" &&
+    find examples -name __pycache__ -prune -o -path examples/c -prune -o -type f -print0 |
     tar -c --null -T -) | tar -x -C "$folder"
 "$root/packages/texts.py" man > "$folder/pitch.1"
 "$root/packages/texts.py" completion > "$folder/pitch.bash"
