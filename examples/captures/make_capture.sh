@@ -1,6 +1,7 @@
 #!/bin/sh
-# Writes sample.pcap, beside this file, from the blocks of ../sample.pitch. It needs text2pcap and mergecap, which come with
-# Wireshark (Debian: wireshark-common). The times of the packets are those of the run.
+# Writes sample.pcap, beside this file, from the blocks of ../sample.pitch. It needs text2pcap and
+# mergecap, which come with Wireshark (Debian: wireshark-common). The times of the packets are those
+# of the run.
 set -eu
 cd "$(dirname "$0")"
 work=$(mktemp -d)

@@ -6,7 +6,10 @@
 # quotes.csv is what timed.py writes. A side that is empty has no line. Where the bid is above the
 # offer, standard error says so.
 set -eu
-[ $# -ge 2 ] || { echo "plot_day.sh: usage: plot_day.sh OUT.png SYMBOL.. < quotes.csv" >&2; exit 2; }
+[ $# -ge 2 ] || {
+    echo "plot_day.sh: usage: plot_day.sh OUT.png SYMBOL.. < quotes.csv" >&2
+    exit 2
+}
 out=$1
 shift
 work=$(mktemp -d)

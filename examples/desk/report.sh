@@ -1,6 +1,6 @@
 #!/bin/sh
-# What a capture says of each unit's book, and what the claim is made of: the sums of the capture, of
-# the program and of its text, the exit status, the packets, and each unit's last status.
+# What a capture says of each unit's book, and what the claim is made of: the sums of the capture,
+# of the program and of its text, the exit status, the packets, and each unit's last status.
 #
 #     examples/desk/report.sh PROGRAM CAPTURE [PORT]
 #

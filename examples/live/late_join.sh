@@ -21,4 +21,5 @@ sleep 3
 wait "$venue" || exit 1
 
 grep -m 1 '^unit 1 image' "$folder/out"
-sed -n '/^book/,$p' "$folder/out" | cmp - "$folder/report" && echo "the book is that of the venue's report"
+sed -n '/^book/,$p' "$folder/out" | cmp - "$folder/report" &&
+    echo "the book is that of the venue's report"

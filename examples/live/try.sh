@@ -3,8 +3,8 @@
 #
 #     examples/live/try.sh [LOST [SECONDS]]
 #
-# Of a hundred datagrams of each line LOST (20) are lost. After SECONDS (15) the client is ended, and
-# its book is compared with that of the whole feed.
+# Of a hundred datagrams of each line LOST (20) are lost. After SECONDS (15) the client is ended,
+# and its book is compared with that of the whole feed.
 cd "$(dirname -- "$(readlink -f -- "$0")")/../.." || exit 1
 lost=${1-20} seconds=${2-15}
 folder=$(mktemp -d) || exit 1
@@ -24,4 +24,5 @@ examples/live/venue.py ./pitch "$folder/feed" --a 127.0.0.1:20501 --b 127.0.0.1:
 kill "$relay" && wait "$relay"
 grep -c '; behind' "$folder/out" | sed 's/$/ lines said behind; the last line is/'
 sed '/^book/,$d' "$folder/out" | tail -1
-sed -n '/^book/,$p' "$folder/out" | cmp - "$folder/wanted" && echo "the book is that of the whole feed"
+sed -n '/^book/,$p' "$folder/out" | cmp - "$folder/wanted" &&
+    echo "the book is that of the whole feed"

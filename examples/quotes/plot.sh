@@ -17,7 +17,8 @@ awk -v unit="$1" -v symbol="$2" -v folder="$points" '
         if (at == "") return
         put("B")
         put("S")
-        if (best["B"] != "" && best["S"] != "" && best["B"] + 0 > best["S"] + 0 && !crossed++) from = at
+        if (best["B"] == "" || best["S"] == "") return
+        if (best["B"] + 0 > best["S"] + 0 && !crossed++) from = at
     }
     $1 == "quote" && $3 == unit && $6 == symbol {
         if ($5 != at) draw()
@@ -27,8 +28,8 @@ awk -v unit="$1" -v symbol="$2" -v folder="$points" '
     END {
         draw()
         if (crossed) {
-            words = "plot.sh: " symbol " is crossed after " crossed " of the messages, first after " from
-            print words > "/dev/stderr"
+            words = " of the messages, first after " from
+            print "plot.sh: " symbol " is crossed after " crossed words > "/dev/stderr"
         }
     }'
 [ -s "$points/B" ] || { echo "plot.sh: no quote of $2 in unit $1" >&2; exit 1; }

@@ -1,5 +1,5 @@
-# The lines of `quotes` as CSV, of all units and symbols or of one; an empty side has no price and no
-# quantity:
+# The lines of `quotes` as CSV, of all units and symbols or of one; an empty side has no price and
+# no quantity:
 #
 #     ./pitch quotes < FEED | awk -v unit=1 -v symbol=IBM -f examples/quotes/quotes_csv.awk
 BEGIN {
