@@ -9,9 +9,9 @@
   capitals, or a file, is there; so is each definition in the tables of READING.md, and each file
   of that of FEED.md in the folder that it names.
 - Each relative link leads to a file, and its anchor to a heading there.
-- No line of prose, of the code or of a definition is wider than 100 columns, but for one with a
-  text in quotes, a row of a table or an attribute, and for a clause that `rt fmt` keeps on a line,
-  which has up to 112.
+- No line of prose, of the code, of a definition or of a script of a shell is wider than 100
+  columns, but for one with a text in quotes, a row of a table or an attribute, and for a clause
+  that `rt fmt` keeps on a line, which has up to 112.
 - README.md says how many must-fail edits there are and what they turn, and with LIVE.md how many
   crates the programs have.
 - What a reader has to believe stands in a crate's `specs/` itself: the definitions that a top call,
@@ -385,6 +385,15 @@ def check_sources(folder):
                     fault(path, number, f"{len(line)} columns")
 
 
+def check_scripts():
+    named = [TOP / it for it in ("pitch", "pitch_live", ".ci/run")]
+    found = [it for it in files_of_tree() if it.suffix in (".sh", ".awk")]
+    for path in sorted([*named, *found]):
+        for number, line in enumerate(path.read_text(encoding="utf-8").splitlines(), 1):
+            if len(line) > WIDEST:
+                fault(path, number, f"{len(line)} columns")
+
+
 def check_edits(page):
     """How many edits there are, and what they turn: files of `specs/`, of `src/`, or of both."""
     turned = []
@@ -440,6 +449,7 @@ def main():
         else:
             check_calls(crate, page)
         check_sources(crate.folder)
+    check_scripts()
     check_map(pages[TOP / "docs/MAP.md"], crates)
     check_layers(check_reading(pages[TOP / "docs/READING.md"]))
     check_rules(pages[TOP / "docs/FEED.md"])
