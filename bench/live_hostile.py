@@ -56,7 +56,7 @@ class Hostile:
         self.sent = 0
 
     def noise(self):
-        return self.dice.randbytes(self.dice.randint(1, 400))
+        return bytes(self.dice.choices(range(256), k=self.dice.randint(1, 400)))
 
     def half(self):
         return LOGIN[:self.dice.randint(1, len(LOGIN) - 1)] if not self.sent else b''

@@ -180,11 +180,15 @@ class Sender:
             time.sleep(ahead)
 
 
+def random_bytes(dice, count):
+    return bytes(dice.choices(range(256), k=count))
+
+
 def spoiled(datagram, dice):
     return dice.choice((
         datagram[:dice.randrange(len(datagram))],
         b'',
-        b'\xff\xff' + dice.randbytes(dice.randrange(200)),
+        b'\xff\xff' + random_bytes(dice, dice.randrange(200)),
         block(OTHER_UNIT, dice.randint(1, 9), []),
     ))
 
@@ -242,11 +246,11 @@ def run_lossy(live, program, rate, number, datagrams, dice):
 def noise(dice):
     kind = dice.randrange(4)
     if kind == 0:
-        return dice.randbytes(dice.randrange(1400)).replace(b'\x01', b'\xfe')
+        return random_bytes(dice, dice.randrange(1400)).replace(b'\x01', b'\xfe')
     if kind == 1:
         return b''
     if kind == 2:
-        return b'\x07\0' + dice.randbytes(40)
+        return b'\x07\0' + random_bytes(dice, 40)
     return block(OTHER_UNIT + dice.randrange(100), dice.randint(1, 2 ** 32 - 1), [b'\x02\x2d'])
 
 

@@ -102,7 +102,8 @@ def annoy(chance, at, until):
         host, port = at.rsplit(':', 1)
         try:
             wire = socket.create_connection((host, int(port)), timeout=1)
-            wire.sendall(chance.choice([chance.randbytes(chance.randint(1, 400)), b'\x1e\0\1\0\0\0\0\0\x16\x010001NONE  PITCH     ',
+            noise = bytes(chance.choices(range(256), k=chance.randint(1, 400)))
+            wire.sendall(chance.choice([noise, b'\x1e\0\1\0\0\0\0\0\x16\x010001NONE  PITCH     ',
                                         b'\x1e\0\1\0\0\0\0\0\x16\x010001FEED  PITCH     ' + b'\x08\0\0\0\0\0\0\0' * 50]))
             kept.append(wire)
         except OSError:

@@ -23,7 +23,7 @@ PARTS = set('Answers Code Contracts Given Goals Invariants Kinds Layout Lts Met 
 
 def function_of(path):
     """The function that a kept file is of, with its modules; none of a file of lemmas."""
-    words = path.name.removesuffix('.oantt').partition('-proofs.')[2].split('.')
+    words = path.stem.partition('-proofs.')[2].split('.')
     while words and words[-1] in PARTS:
         words.pop()
     return '::'.join(words)

@@ -57,7 +57,7 @@ class Stranger(threading.Thread):
             stream = socket.create_connection(('127.0.0.1', port), 1)
             self.met.add(port)
             if self.dice.random() < 0.5:
-                stream.send(self.dice.randbytes(30))
+                stream.send(bytes(self.dice.choices(range(256), k=30)))
             if self.dice.random() < 0.5:
                 stream.close()
             else:
@@ -67,7 +67,8 @@ class Stranger(threading.Thread):
 
     def send(self, out, port):
         try:
-            out.sendto(self.dice.randbytes(self.dice.choice((0, 8, 30, 1400))), ('127.0.0.1', port))
+            size = self.dice.choice((0, 8, 30, 1400))
+            out.sendto(bytes(self.dice.choices(range(256), k=size)), ('127.0.0.1', port))
         except OSError:
             pass
 

@@ -305,8 +305,10 @@ class Try:
 
     def run(self):
         ways = {"tcpdump": self.live_capture, "dumpcap": self.captured_file, "tail": self.growing_file}
-        ways |= {"examples/desk/listen.py": self.joined_groups, "python3": self.socket_as_input}
-        ways |= {"tcpreplay": self.replayed_capture, "./pitch_live": self.live_lines}
+        ways["examples/desk/listen.py"] = self.joined_groups
+        ways["python3"] = self.socket_as_input
+        ways["tcpreplay"] = self.replayed_capture
+        ways["./pitch_live"] = self.live_lines
         ways["examples/live/join.py"] = self.live_group
         way = ways.get(self.recipe.split()[0])
         if not way:

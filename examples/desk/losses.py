@@ -33,8 +33,10 @@ class Line:
 
     def fill(self, first, last, now):
         """Takes what came after all out of the open runs, of which the rest stays open."""
-        at = end = bisect.bisect_left(self.open, first, key=lambda gap: gap[1])
-        left = []
+        at = bisect.bisect_left(self.open, (first,))
+        if at and self.open[at - 1][1] >= first:
+            at -= 1
+        end, left = at, []
         while end < len(self.open) and self.open[end][0] <= last:
             low, high, after, seen = self.open[end]
             self.rows.append((max(low, first), min(high, last), after, seen, now))

@@ -49,7 +49,7 @@ class Line:
         return self.dice.choice((
             datagram[:self.dice.randrange(len(datagram) or 1)],
             b'',
-            b'\xff\xff' + self.dice.randbytes(self.dice.randrange(200)),
+            b'\xff\xff' + bytes(self.dice.choices(range(256), k=self.dice.randrange(200))),
             struct.pack('<HBBI', 8, 0, OTHER_UNIT, self.dice.randint(1, 9)),
         ))
 
