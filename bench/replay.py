@@ -261,7 +261,7 @@ def busiest(command, path):
         if status != 0:
             sys.exit('%s ended with status %d' % (' '.join(command), status >> 8))
         out.seek(0)
-        text = hashlib.file_digest(out, 'sha256').hexdigest()
+        text = hashlib.sha256(out.read()).hexdigest()
         return clock, use.ru_utime + use.ru_stime, max(took.values()), use.ru_maxrss * 1024 / 1e6, text
 
 
