@@ -27,11 +27,13 @@ done
 source="given by name; nobody looked whether it is of the commit"
 if [ -z "$library" ]; then
     library=$root/crates/pitch_c/out/libpitch_c.a
-    [ -f "$library" ] || fail "the library is not built: rt lib in crates/pitch_c proves and makes it"
+    [ -f "$library" ] ||
+        fail "the library is not built: rt lib in crates/pitch_c proves and makes it"
     newer=$(find "$root/crates.txt" "$root/crates" -type f -not -path '*/out/*' \
         \( -name '*.rt' -o -name '*.antt' -o -name crates.txt \) \
         -newer "$(readlink -f -- "$library")" -print -quit)
-    [ -z "$newer" ] || fail "$newer is newer than the library: rt lib in crates/pitch_c makes it anew"
+    [ -z "$newer" ] ||
+        fail "$newer is newer than the library: rt lib in crates/pitch_c makes it anew"
     source="of the commit"
 fi
 [ -f "$library" ] || fail "$library is no file"
@@ -51,13 +53,15 @@ folder=${folder:-pitch-library-$version}
 whole=$folder
 folder=$whole.part
 rm -rf -- "$folder"
-mkdir -p -- "$folder/include" "$folder/lib/pkgconfig" "$folder/rust" "$folder/python" "$folder/examples"
+for it in include lib/pkgconfig rust python examples; do mkdir -p -- "$folder/$it"; done
 trap 'rm -rf -- "$folder"' EXIT
 given=$root/examples/c
 cp -- "$given"/pitch_client.h "$given"/pitch_end.h "$given"/pitch_client.hpp "$folder/include/"
 cp -- "$given"/pitch_client.rs "$folder/rust/"
 cp -- "$given"/pitch_client.py "$folder/python/"
-cp -- "$given"/follow.c "$given"/follow.cpp "$given"/bests.c "$given"/recover.c "$given"/heap.c "$folder/examples/"
+for it in follow.c follow.cpp bests.c recover.c heap.c; do
+    cp -- "$given/$it" "$folder/examples/"
+done
 
 # The archive has the memory by malloc in it, and the shared object exports the library alone.
 heap=$folder/heap.o
