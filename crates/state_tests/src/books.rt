@@ -25,6 +25,14 @@ const EXECUTED_AT: &[u8] =
 
 const REDUCE_ALL: &[u8] = b"\x12\x25\0\0\0\0\x05\0\0\0\0\0\0\0\x64\0\0\0";
 
+// More than the hundred shares of order 5, or the last of them.
+const EXECUTED_MORE: &[u8] = b"\x1a\x23\0\0\0\0\x05\0\0\0\0\0\0\0\x65\0\0\0\x09\0\0\0\0\0\0\0";
+
+const EXECUTED_LAST_AT: &[u8] =
+    b"\x26\x24\0\0\0\0\x05\0\0\0\0\0\0\0\x64\0\0\0\0\0\0\0\x09\0\0\0\0\0\0\0\xa0\x86\x01\0\0\0\0\0";
+
+const REDUCE_MORE: &[u8] = b"\x12\x25\0\0\0\0\x05\0\0\0\0\0\0\0\x65\0\0\0";
+
 const REDUCE: &[u8] = b"\x10\x26\0\0\0\0\x05\0\0\0\0\0\0\0\x03\0";
 
 const REDUCE_REST: &[u8] = b"\x10\x26\0\0\0\0\x05\0\0\0\0\0\0\0\x04\0";
@@ -74,11 +82,14 @@ fn book_after(rt: &impl Abort, alloc: Global, raws: &[&[u8]]) -> UnitBook {
 }
 
 // Messages, whether the second is known, and quantity, price and display of order 5.
-const ROWS: [(&[&[u8]], bool, Option<(u32, u64, bool)>); 21] = [
+const ROWS: [(&[&[u8]], bool, Option<(u32, u64, bool)>); 27] = [
     (&[TIME, ADD], true, Some((100, 100_000, true))),
     (&[ADD, MODIFY, REDUCE], false, Some((4, 110_000, false))),
     (&[ADD, MODIFY, REDUCE, REDUCE_REST], false, None),
     (&[ADD, REDUCE_ALL], false, None),
+    (&[ADD, REDUCE_MORE], false, None),
+    (&[ADD, EXECUTED_MORE], false, None),
+    (&[ADD, EXECUTED_LAST_AT], false, None),
     (&[ADD, EXECUTED], false, Some((70, 100_000, true))),
     (&[ADD, EXECUTED_AT], false, Some((20, 100_000, true))),
     (&[TIME, ADD, CLEAR], true, None),
@@ -88,6 +99,9 @@ const ROWS: [(&[&[u8]], bool, Option<(u32, u64, bool)>); 21] = [
     (&[ADD, ADD_AGAIN], false, Some((10, 99_900, true))),
     (&[ADD, DELETE], false, None),
     (&[ADD_OTHER, REDUCE], false, None),
+    (&[ADD_OTHER, EXECUTED], false, None),
+    (&[ADD_OTHER, EXECUTED_AT], false, None),
+    (&[ADD_OTHER, MODIFY], false, None),
     (&[SHORT_ADD], false, None),
     (&[DELETE, CLEAR], false, None),
     (&[ADD, LONG_TRADE], false, Some((100, 100_000, true))),
