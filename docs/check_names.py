@@ -39,6 +39,7 @@ TOP_CALLS = [
     "pitch_tool/src/program.rt",
     "pitch_tool/src/status.rt",
     "live_words/src/reading.rt",
+    "live_setups/src",
     "live_listen/src/listening.rt",
     "live_recovery/src/recovery.rt",
     "live_venue/src/service.rt",
