@@ -1,5 +1,6 @@
 //! The words that the program was given, with those of its setup files.
 
+use live_setups::add_setup;
 use pitch_fields::OutOfMemory;
 use std::alloc::{AllocError, Global};
 use std::io::ErrorKind;
@@ -43,31 +44,13 @@ fn add(alloc: Global, word: &str, words: &mut Vec<String>) -> Result<(), AllocEr
     Ok(())
 }
 
-// Adds the words of a line of a setup file: an option, and its value behind a space. A line that is
-// blank or begins with `#` has none.
-fn add_line(alloc: Global, line: &str, words: &mut Vec<String>) -> Result<(), AllocError> {
-    let line = line.trim();
-    if line.is_empty() || line.starts_with('#') {
-        return Ok(());
-    }
-    match line.split_once(' ') {
-        Some((option, value)) => {
-            add(alloc, option, words)?;
-            add(alloc, value.trim(), words)
-        }
-        None => add(alloc, line, words),
-    }
-}
-
 // Adds the words of a setup file.
 fn add_file(rt: &HostRuntime, path: &str, words: &mut Vec<String>) -> Result<(), NoWords> {
     let text = match fs::read_to_string(rt, path) {
         Ok(text) => text,
         Err(error) => return Err(NoWords::Setup(String::from_str(rt.alloc(), path)?, error)),
     };
-    for line in text.lines() {
-        add_line(rt.alloc(), line, words)?;
-    }
+    add_setup(rt.alloc(), text.as_str(), words)?;
     Ok(())
 }
 

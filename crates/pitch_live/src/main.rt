@@ -1,41 +1,23 @@
 //! The program `pitch_live`.
 #![tactic(auto)]
 
-mod asking;
 mod given;
-mod hearing;
+mod listening;
 mod reporting;
 mod says;
 mod serving;
 mod telling;
 
-use crate::asking::ask;
 use crate::given::{NoWords, words_of};
-use crate::hearing::hear;
+use crate::listening::listen;
 use crate::says::{say_out_of_memory, say_setup, say_usage};
 use crate::serving::serve;
-use live_words::{Asked, ListenWords, read};
-use std::alloc::AllocError;
+use live_setups::ExitStatus;
+use live_words::{Asked, read};
 use std::process::ExitCode;
 
-// Whether a unit is named, by itself or with a server.
-fn names_unit(asked: &ListenWords) -> bool {
-    let servers = &asked.servers;
-    !(asked.units.is_empty() && servers.grp.is_empty() && servers.spin.is_empty())
-}
-
-// Hears the lines: where a unit or a server is named, the run ends with its units, and servers are
-// asked for what was lost.
-fn listen(rt: &HostRuntime, asked: &ListenWords) -> Result<u8, AllocError> {
-    if names_unit(asked) {
-        ask(rt, asked)
-    } else {
-        hear(rt, asked)
-    }
-}
-
 // Does what the words ask for.
-fn run(rt: &HostRuntime) -> Result<u8, NoWords> {
+fn run(rt: &HostRuntime) -> Result<ExitStatus, NoWords> {
     let words = words_of(rt)?;
     match read(rt.alloc(), &words)? {
         Some(Asked::Listen(asked)) => Ok(listen(rt, &asked)?),
@@ -50,5 +32,5 @@ fn main(rt: HostRuntime) -> ExitCode {
         Err(NoWords::OutOfMemory) => say_out_of_memory(&rt),
         Err(NoWords::Setup(path, reason)) => say_setup(&rt, path.as_str(), &reason),
     };
-    ExitCode::from(status)
+    ExitCode::from(status.number())
 }

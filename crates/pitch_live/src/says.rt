@@ -1,39 +1,36 @@
 //! What the program says on standard error, each by one line, and the exit status that goes with
-//! it.
+//! it where nothing else does.
 
 use line_sockets::Trouble;
+use live_setups::{ExitStatus, line_status, part_status};
 use live_venue::InputFault;
 use live_words::{LineWords, UnitWords};
 use std::fmt::Display;
 use std::io;
-use std::io::ErrorKind;
 use venue_sockets::{VenuePart, VenueTrouble};
 
-// The exit statuses, as those of `pitch`, and one more.
-pub const DONE: u8 = 0;
-
-const USAGE: u8 = 2;
-
-const BAD_INPUT: u8 = 3;
-
-const READ_FAILED: u8 = 4;
-
-const WRITE_FAILED: u8 = 5;
-
-const OUT_OF_MEMORY: u8 = 6;
-
-pub const NET_FAILED: u8 = 7;
-
-const LINES_DISAGREE: u8 = 8;
-
 /// Memory ran out.
-pub fn say_out_of_memory(rt: &HostRuntime) -> u8 {
+pub fn say_out_of_memory(rt: &HostRuntime) -> ExitStatus {
     let _said = eprintln!(rt; "pitch_live: out of memory");
-    OUT_OF_MEMORY
+    ExitStatus::OutOfMemory
+}
+
+/// What was counted.
+pub fn say_counts(
+    rt: &HostRuntime,
+    datagrams: u64,
+    faulty: u64,
+    blocks: u64,
+    stray: u64,
+) -> ExitStatus {
+    let _said = eprintln!(rt;
+        "pitch_live: datagrams {datagrams} faulty {faulty} blocks {blocks} stray {stray}"
+    );
+    ExitStatus::Done
 }
 
 /// The words ask for nothing.
-pub fn say_usage(rt: &HostRuntime) -> u8 {
+pub fn say_usage(rt: &HostRuntime) -> ExitStatus {
     let _said = eprintln!(rt;
         "pitch_live: the words are: listen --a PORT.. --b PORT.. [--gap PORT..] [--from IP].. \
          [--unit U].. [--grp U@ADDR:NUMBER].. [--spin U@ADDR:NUMBER].. \
@@ -45,31 +42,31 @@ pub fn say_usage(rt: &HostRuntime) -> u8 {
          [--lose LINE:SHARE].. [--repeat LINE:SHARE].. [--swap LINE:SHARE].. [--cut N] \
          [--number S] [--report FILE] [--setup FILE].., with at most 64 units"
     );
-    USAGE
+    ExitStatus::Usage
 }
 
 /// A setup file can't be read.
-pub fn say_setup(rt: &HostRuntime, path: &str, reason: &io::Error) -> u8 {
+pub fn say_setup(rt: &HostRuntime, path: &str, reason: &io::Error) -> ExitStatus {
     let _said = eprintln!(rt; "pitch_live: {path}: {reason}");
-    USAGE
+    ExitStatus::Usage
 }
 
 /// Standard output can't be written to.
-pub fn say_write_failed(rt: &HostRuntime) -> u8 {
+pub fn say_write_failed(rt: &HostRuntime) -> ExitStatus {
     let _said = eprintln!(rt; "pitch_live: standard output can't be written to");
-    WRITE_FAILED
+    ExitStatus::WriteFault
 }
 
 /// A report can't be made or written.
-pub fn say_report<D: Display>(rt: &HostRuntime, path: &str, reason: &D) -> u8 {
+pub fn say_report<D: Display>(rt: &HostRuntime, path: &str, reason: &D) -> ExitStatus {
     let _said = eprintln!(rt; "pitch_live: {path}: {reason}");
-    WRITE_FAILED
+    ExitStatus::WriteFault
 }
 
 /// Two copies of a message of a unit differ.
-pub fn say_disagree(rt: &HostRuntime, unit: u8, sequence: u32) -> u8 {
+pub fn say_disagree(rt: &HostRuntime, unit: u8, sequence: u32) -> ExitStatus {
     let _said = eprintln!(rt; "pitch_live: unit {unit} lines disagree at {sequence}");
-    LINES_DISAGREE
+    ExitStatus::LinesDisagree
 }
 
 // What the line of this number is called, or the wait where there is no number.
@@ -88,19 +85,20 @@ fn name_of(lines: &LineWords, line: Option<u16>) -> &'static str {
 }
 
 /// What the system said of a line or of the wait.
-pub fn say_trouble(rt: &HostRuntime, lines: &LineWords, trouble: &Trouble) -> u8 {
-    if trouble.reason.kind() == ErrorKind::OutOfMemory {
+pub fn say_trouble(rt: &HostRuntime, lines: &LineWords, trouble: &Trouble) -> ExitStatus {
+    let status = line_status(trouble);
+    if status == ExitStatus::OutOfMemory {
         return say_out_of_memory(rt);
     }
     let name = name_of(lines, trouble.line);
     let _said = eprintln!(rt; "pitch_live: {name}: {}", trouble.reason);
-    NET_FAILED
+    status
 }
 
 /// The first fault of the input of commands.
-pub fn say_input(rt: &HostRuntime, fault: &InputFault) -> u8 {
+pub fn say_input(rt: &HostRuntime, fault: &InputFault) -> ExitStatus {
     let _said = eprintln!(rt; "pitch_live: {fault}");
-    BAD_INPUT
+    ExitStatus::BadInput
 }
 
 // The number of the unit at an index; 0 where there is none.
@@ -112,11 +110,16 @@ fn unit_at(units: &[UnitWords], at: u16) -> u8 {
 }
 
 /// What the system said of a part of a venue's net.
-pub fn say_venue_trouble(rt: &HostRuntime, units: &[UnitWords], trouble: &VenueTrouble) -> u8 {
-    let reason = &trouble.reason;
-    if reason.kind() == ErrorKind::OutOfMemory {
+pub fn say_venue_trouble(
+    rt: &HostRuntime,
+    units: &[UnitWords],
+    trouble: &VenueTrouble,
+) -> ExitStatus {
+    let status = part_status(trouble);
+    if status == ExitStatus::OutOfMemory {
         return say_out_of_memory(rt);
     }
+    let reason = &trouble.reason;
     let _said = match trouble.part {
         VenuePart::Wait => eprintln!(rt; "pitch_live: wait: {reason}"),
         VenuePart::Input => eprintln!(rt; "pitch_live: standard input: {reason}"),
@@ -135,8 +138,5 @@ pub fn say_venue_trouble(rt: &HostRuntime, units: &[UnitWords], trouble: &VenueT
             )
         }
     };
-    match trouble.part {
-        VenuePart::Input => READ_FAILED,
-        _ => NET_FAILED,
-    }
+    status
 }
