@@ -79,7 +79,7 @@ recover_status (Err recovering.Write) trouble = WriteFault
 recover_status (Err recovering.OutOfMemory) trouble = OutOfMemory
 recover_status (Err (recovering.Disagree told)) trouble = LinesDisagree
 
--- early
+-- a run that broke off before it was over
 abbrev pub early_status : ServeError → Option VenueTrouble → ExitStatus
 early_status serving.Net trouble = venue_status trouble
 early_status (serving.Input fault) trouble = BadInput
