@@ -92,8 +92,9 @@ fn print_unit(rt: &impl Print, unit: usize, client: &UnitClient) -> io::Result<(
     let bid = Best(best_price(client, symbol, Side::Buy));
     let offer = Best(best_price(client, symbol, Side::Sell));
     let word = match client.status() {
+        Status::Silent => "silent",
         Status::Current { .. } => "current",
-        _ => "behind",
+        Status::Behind { .. } => "behind",
     };
     let n = client.reach();
     println!(rt; "unit {unit} {word} at {n}: bid {bid}, offer {offer}")
