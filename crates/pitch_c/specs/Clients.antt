@@ -1,5 +1,5 @@
 -- What a client that C holds stands for, and what C is told of it. Blocks stand newest first.
-use Rattle.std.specs.Prelude.{◌≡◌, ◌≤◌, ℕ, List, ◌∷◌, length, map as mapped, take, Option, Some}
+use Rattle.std.specs.Prelude.{◌≡◌, ◌≤◌, ℕ, List, [], ◌∷◌, length, map as mapped, take, Some}
 use Rattle.std.specs.Option.{IsSome, IsSomeAnd}
 use Rattle.std.specs.FinMap as map
 use Rattle.pitch_fields.specs.Side.{side_of}
@@ -15,6 +15,7 @@ use Rattle.unit_packets.specs.Lending.{header_for}
 use Rattle.heard_items.specs.Units.{unit_history, AllHonest}
 use Rattle.heard_items.specs.Changes.{block_change}
 use Rattle.unit_clients.specs.Clients.{Units, HaveHeard}
+use Rattle.unit_clients.specs.Room.{KeepRoom}
 use Rattle.leveled_units.specs.BestFirst.{levels_of}
 use Rattle.leveled_units.specs.Hearing.{Advances}
 use Rattle.best_quotes.specs.Quoting.{quotes_of_block}
@@ -29,31 +30,32 @@ use Rattle.pitch_c.specs.declared.reports.StateOut.{StateOut}
 use Rattle.pitch_c.specs.declared.reports.LevelOut.{LevelOut}
 use Rattle.pitch_c.specs.declared.reports.QuoteOut.{QuoteOut}
 
--- the clients stand for the blocks
-abbrev pub HasHeard : Option Units → List Block → Type 0
-HasHeard feed before = IsSomeAnd feed (λ units. HaveHeard units before)
+-- they were opened so: each holds at most so many messages, and they have heard nothing
+pub record AreOpened (hold : ℕ) (units : Units) : Type 0 where
+  pub limit : units.limit ≡ hold
+  pub heard : HaveHeard units []
 
--- they stand for whatever blocks they stood for
-abbrev pub StillHave : Units → Units → Type 0
-StillHave old new = (before : List Block) → HaveHeard old before → HaveHeard new before
+-- they stand for whatever blocks they stood for, and hold as many messages as before
+pub record StillHave (old new : Units) : Type 0 where
+  pub limit : new.limit ≡ old.limit
+  pub heard : (before : List Block) → HaveHeard old before → HaveHeard new before
 
--- a block stands first in the bytes; whatever blocks came before, the clients then stand for these
--- with the block after them; and this is told of the block
+-- a block was heard: whatever blocks came before, the clients then stand for these with it after
+-- them, and hold as many messages as before; and this is told of it
+pub record Hears (old new : Units) (block : Block) (told : HeardOut) : Type 0 where
+  pub limit : new.limit ≡ old.limit
+  pub heard : (before : List Block) → HaveHeard old before → HaveHeard new (block ∷ before)
+  pub told_is : (before : List Block) → HaveHeard old before
+      → told ≡ heard_shown (header_for block)
+      (block_change old.limit (unit_history block.unit before) block)
+
+-- so it was of the block that stands first in the bytes; and memory that was taken ahead for it and
+-- for more messages of its unit still serves those
 pub record HearFirst (bytes : List ℕ) (old new : Units) (told : HeardOut) : Type 0 where
   pub block : Block
   pub stands : StandsFirst bytes block
-  pub heard : (before : List Block) → HaveHeard old before → HaveHeard new (block ∷ before)
-  pub told_is : (before : List Block) → HaveHeard old before
-      → told ≡ heard_shown (header_for block)
-      (block_change old.limit (unit_history block.unit before) block)
-
--- a block was heard: whatever blocks came before, the clients then stand for these with it after
--- them; and this is told of it
-pub record Hears (old new : Units) (block : Block) (told : HeardOut) : Type 0 where
-  pub heard : (before : List Block) → HaveHeard old before → HaveHeard new (block ∷ before)
-  pub told_is : (before : List Block) → HaveHeard old before
-      → told ≡ heard_shown (header_for block)
-      (block_change old.limit (unit_history block.unit before) block)
+  pub hears : Hears old new block told
+  pub room : KeepRoom old new block
 
 -- of whatever blocks they had heard, where these and the next one speak of one venue's messages for
 -- each unit, the array has what each message with which that took the reach on changed of the best

@@ -36,6 +36,7 @@ pub(crate) fn hear_first(
 ) -> u32
     ensures heard { result ≡ code.ok → HearFirst bytes.now units.old units.new told.new }
     ensures still { 1 ≤ result → StillHave units.old units.new }
+    ensures kept { 1 ≤ result → told.new ≡ told.old }
     ensures answer { Answers (judged_code (judge bytes.now)) result }
     ensures memory { result ≡ code.no_memory → MayTakeMemory bytes.now units.old }
 {
@@ -83,6 +84,7 @@ fn best_price(client: &LeveledUnit, symbol: Symbol, side: Side) -> Option<(Price
 
 pub(crate) fn tell_status(units: &LeveledUnits, unit: u32, told: &mut StatusOut) -> u32
     ensures status { result ≡ code.ok → TellStatus units.now unit told.new }
+    ensures kept { 1 ≤ result → told.new ≡ told.old }
     ensures answer { result ≡ client_code (client_of units.now unit) }
 {
     match units.unit(unit) {
@@ -102,6 +104,7 @@ pub(crate) fn tell_best(
     told: &mut BestOut,
 ) -> u32
     ensures best { result ≡ code.ok → TellBest units.now unit symbol.now side told.new }
+    ensures kept { 1 ≤ result → told.new ≡ told.old }
     ensures answer { result ≡ side_code (side_of side) (client_code (client_of units.now unit)) }
 {
     let Some(side) = Side::from_byte(side) else {
@@ -126,6 +129,7 @@ fn open_order(client: &LeveledUnit, id: u64) -> Option<Order>
 
 pub(crate) fn tell_order(units: &LeveledUnits, unit: u32, id: u64, told: &mut OrderOut) -> u32
     ensures order { result ≡ code.ok → TellOrder units.now unit id told.new }
+    ensures kept { 1 ≤ result → told.new ≡ told.old }
     ensures answer { result ≡ client_code (client_of units.now unit) }
 {
     match units.unit(unit) {

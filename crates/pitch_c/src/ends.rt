@@ -51,7 +51,8 @@ fn boxed(alloc: Global, unit: u32, account: &Account, hold: u32) -> Result<Box<S
 }
 
 fn hear(end: &mut SendingEnd, bytes: &[u8], told: &mut DatagramOut) -> u32
-    ensures { Hears bytes.now told.new result end.old end.new }
+    ensures hears { Hears bytes.now told.new result end.old end.new }
+    ensures kept { 1 ≤ result → told.new ≡ told.old }
 {
     match end.hear_datagram(bytes) {
         Ok(passed) => {
@@ -113,7 +114,8 @@ fn second(end: &mut SendingEnd) -> u32
 }
 
 fn send(end: &mut SendingEnd, session: u32, into: &mut [u8], told: &mut SentOut) -> u32
-    ensures { Sends session into.old into.new told.new result end.old end.new }
+    ensures sends { Sends session into.old into.new told.new result end.old end.new }
+    ensures kept { 1 ≤ result → (into.new ≡ into.old) × (told.new ≡ told.old) }
 {
     match find_session(session) {
         Some(session) => {
@@ -131,6 +133,7 @@ fn send(end: &mut SendingEnd, session: u32, into: &mut [u8], told: &mut SentOut)
 
 fn tell_connection(end: &SendingEnd, session: u32, told: &mut u32) -> u32
     ensures tells { result ≡ code.ok → TellConnection end.now session told.new }
+    ensures kept { 1 ≤ result → told.new ≡ told.old }
     ensures answer { result ≡ session_code (session_of session) }
 {
     match find_session(session) {
@@ -150,6 +153,7 @@ fn tell_status(end: &SendingEnd, told: &mut StatusOut)
 
 fn tell_best(end: &SendingEnd, symbol: &[u8; 8], side: u8, told: &mut BestOut) -> u32
     ensures best { result ≡ code.ok → TellEndBest end.now symbol.now side told.new }
+    ensures kept { 1 ≤ result → told.new ≡ told.old }
     ensures answer { result ≡ side_code (side_of side) code.ok }
 {
     let Some(side) = Side::from_byte(side) else {
@@ -217,7 +221,9 @@ pub extern "C" fn pitch_c_end_hear(
     bytes: &[u8],
     told: &mut DatagramOut,
 ) -> u32
-    ensures closed { IfNone end.old.handle.value (result ≡ code.closed) }
+    ensures kept { 1 ≤ result → told.new ≡ told.old }
+    ensures closed { IfNone end.old.handle.value
+        ((result ≡ code.closed) × (end.new.handle.value ≡ None)) }
     ensures open { IfSome end.old.handle.value (λ old. IsSomeAnd end.new.handle.value
         (λ new. Hears bytes.now told.new result old new)) }
 {
@@ -232,7 +238,8 @@ pub extern "C" fn pitch_c_end_hear(
 /// A connection of a session was made; one that stood before has ended.
 #[unsafe(no_mangle)]
 pub extern "C" fn pitch_c_end_connected(alloc: Global, end: &mut End, session: u32) -> u32
-    ensures closed { IfNone end.old.handle.value (result ≡ code.closed) }
+    ensures closed { IfNone end.old.handle.value
+        ((result ≡ code.closed) × (end.new.handle.value ≡ None)) }
     ensures open { IfSome end.old.handle.value (λ old. IsSomeAnd end.new.handle.value
         (λ new. Connects session result old new)) }
 {
@@ -247,7 +254,8 @@ pub extern "C" fn pitch_c_end_connected(alloc: Global, end: &mut End, session: u
 /// Bytes of a session came.
 #[unsafe(no_mangle)]
 pub extern "C" fn pitch_c_end_took(alloc: Global, end: &mut End, session: u32, bytes: &[u8]) -> u32
-    ensures closed { IfNone end.old.handle.value (result ≡ code.closed) }
+    ensures closed { IfNone end.old.handle.value
+        ((result ≡ code.closed) × (end.new.handle.value ≡ None)) }
     ensures open { IfSome end.old.handle.value (λ old. IsSomeAnd end.new.handle.value
         (λ new. Takes session bytes.now result old new)) }
 {
@@ -262,7 +270,8 @@ pub extern "C" fn pitch_c_end_took(alloc: Global, end: &mut End, session: u32, b
 /// The connection of a session has ended, where one stood.
 #[unsafe(no_mangle)]
 pub extern "C" fn pitch_c_end_cut(alloc: Global, end: &mut End, session: u32) -> u32
-    ensures closed { IfNone end.old.handle.value (result ≡ code.closed) }
+    ensures closed { IfNone end.old.handle.value
+        ((result ≡ code.closed) × (end.new.handle.value ≡ None)) }
     ensures open { IfSome end.old.handle.value (λ old. IsSomeAnd end.new.handle.value
         (λ new. Cuts session result old new)) }
 {
@@ -277,7 +286,8 @@ pub extern "C" fn pitch_c_end_cut(alloc: Global, end: &mut End, session: u32) ->
 /// A second passed.
 #[unsafe(no_mangle)]
 pub extern "C" fn pitch_c_end_second(alloc: Global, end: &mut End) -> u32
-    ensures closed { IfNone end.old.handle.value (result ≡ code.closed) }
+    ensures closed { IfNone end.old.handle.value
+        ((result ≡ code.closed) × (end.new.handle.value ≡ None)) }
     ensures open { IfSome end.old.handle.value (λ old. IsSomeAnd end.new.handle.value
         (λ new. Ticks result old new)) }
 {
@@ -298,7 +308,9 @@ pub extern "C" fn pitch_c_end_send(
     into: &mut [u8],
     told: &mut SentOut,
 ) -> u32
-    ensures closed { IfNone end.old.handle.value (result ≡ code.closed) }
+    ensures kept { 1 ≤ result → (into.new ≡ into.old) × (told.new ≡ told.old) }
+    ensures closed { IfNone end.old.handle.value
+        ((result ≡ code.closed) × (end.new.handle.value ≡ None)) }
     ensures open { IfSome end.old.handle.value (λ old. IsSomeAnd end.new.handle.value
         (λ new. Sends session into.old into.new told.new result old new)) }
 {
@@ -320,6 +332,7 @@ pub extern "C" fn pitch_c_end_connection(
 ) -> u32
     ensures tells { result ≡ code.ok → IsSomeAnd end.old.handle.value
         (λ e. TellConnection e session told.new) }
+    ensures kept { 1 ≤ result → told.new ≡ told.old }
     ensures same { end.new.handle.value ≡ end.old.handle.value }
     ensures closed { IfNone end.old.handle.value (result ≡ code.closed) }
     ensures answer { IfSome end.old.handle.value
@@ -338,6 +351,7 @@ pub extern "C" fn pitch_c_end_connection(
 pub extern "C" fn pitch_c_end_status(alloc: Global, end: &mut End, told: &mut StatusOut) -> u32
     ensures status { result ≡ code.ok → IsSomeAnd end.old.handle.value
         (λ e. TellEndStatus e told.new) }
+    ensures kept { 1 ≤ result → told.new ≡ told.old }
     ensures same { end.new.handle.value ≡ end.old.handle.value }
     ensures closed { IfNone end.old.handle.value (result ≡ code.closed) }
     ensures answer { IfSome end.old.handle.value (λ e. result ≡ code.ok) }
@@ -361,6 +375,7 @@ pub extern "C" fn pitch_c_end_best(
 ) -> u32
     ensures best { result ≡ code.ok → IsSomeAnd end.old.handle.value
         (λ e. TellEndBest e symbol.now side told.new) }
+    ensures kept { 1 ≤ result → told.new ≡ told.old }
     ensures same { end.new.handle.value ≡ end.old.handle.value }
     ensures closed { IfNone end.old.handle.value (result ≡ code.closed) }
     ensures answer { IfSome end.old.handle.value
@@ -384,6 +399,7 @@ pub extern "C" fn pitch_c_end_order(
 ) -> u32
     ensures order { result ≡ code.ok → IsSomeAnd end.old.handle.value
         (λ e. TellEndOrder e id told.new) }
+    ensures kept { 1 ≤ result → told.new ≡ told.old }
     ensures same { end.new.handle.value ≡ end.old.handle.value }
     ensures closed { IfNone end.old.handle.value (result ≡ code.closed) }
     ensures answer { IfSome end.old.handle.value (λ e. result ≡ code.ok) }

@@ -106,6 +106,7 @@ pub(crate) fn tell_level(
     told: &mut LevelOut,
 ) -> u32
     ensures level { result ≡ code.ok → TellLevel units.now unit symbol.now side price told.new }
+    ensures kept { 1 ≤ result → told.new ≡ told.old }
     ensures answer { result ≡ side_code (side_of side) (client_code (client_of units.now unit)) }
 {
     let Some(side) = Side::from_byte(side) else {

@@ -13,16 +13,16 @@ mod lists;
 mod quoting;
 mod reports;
 
-ghost use Rattle.std.specs.Prelude.{◌≡◌, ◌≤◌, IfErr, IfNone, IfOk, IfSome, None, []};
+ghost use Rattle.std.specs.Prelude.{◌≡◌, ◌≤◌, IfErr, IfNone, IfOk, IfSome, None};
 ghost use Rattle.std.specs.Option.{IsSomeAnd};
 ghost use Rattle.pitch_fields.specs.Side.{side_of};
 ghost use Rattle.unit_packets.specs.Judging.{judge};
-ghost use Rattle.unit_clients.specs.Clients.{HaveHeard, client_of};
+ghost use Rattle.unit_clients.specs.Clients.{client_of};
 ghost use Rattle.unit_clients.specs.Room.{HaveSpare};
 ghost use Rattle.pitch_c.specs.Codes as code;
 ghost use Rattle.pitch_c.specs.Answers.{Answers, hold_code, judged_code, client_code, side_code};
 ghost use Rattle.pitch_c.specs.Answers.{MayTakeMemory, AnswersQuoted};
-ghost use Rattle.pitch_c.specs.Clients.{HasHeard, StillHave, HearFirst};
+ghost use Rattle.pitch_c.specs.Clients.{AreOpened, StillHave, HearFirst};
 ghost use Rattle.pitch_c.specs.Clients.{HearQuoted, HearUntold};
 ghost use Rattle.pitch_c.specs.Clients.{TellStatus, TellBest, TellOrder, TellOrders, TellStates};
 ghost use Rattle.pitch_c.specs.Clients.{TellLevel, TellLevels, HasOrders, HasSide};
@@ -40,7 +40,7 @@ use std::alloc::Global;
 
 // Boxes new clients.
 fn boxed(alloc: Global, hold: u32, levels: bool) -> Result<Box<LeveledUnits>, u32>
-    ensures heard { IfOk result (λ units. HaveHeard units.value []) }
+    ensures opened { IfOk result (λ units. AreOpened hold units.value) }
     ensures ok { IfOk result (λ units. hold_code hold ≡ code.ok) }
     ensures answer { IfErr result (λ n. Answers (hold_code hold) n) }
     ensures err { IfErr result (λ n. 1 ≤ n) }
@@ -67,7 +67,8 @@ pub extern "C" fn pitch_c_abi() -> u32
 /// and have price levels where `levels` is not 0.
 #[unsafe(no_mangle)]
 pub extern "C" fn pitch_c_open(alloc: Global, client: &mut Client, hold: u32, levels: u32) -> u32
-    ensures heard { result ≡ code.ok → HasHeard client.new.handle.value [] }
+    ensures opened { result ≡ code.ok
+        → IsSomeAnd client.new.handle.value (λ units. AreOpened hold units) }
     ensures same { 1 ≤ result → client.new.handle.value ≡ client.old.handle.value }
     ensures is_open { IfSome client.old.handle.value (λ units. result ≡ code.is_open) }
     ensures answer { IfNone client.old.handle.value (Answers (hold_code hold) result) }
@@ -105,7 +106,9 @@ pub extern "C" fn pitch_c_hear(
         (λ old. IsSomeAnd client.new.handle.value (λ new. HearFirst bytes.now old new told.new)) }
     ensures still { 1 ≤ result → IfSome client.old.handle.value
         (λ old. IsSomeAnd client.new.handle.value (λ new. StillHave old new)) }
-    ensures closed { IfNone client.old.handle.value (result ≡ code.closed) }
+    ensures kept { 1 ≤ result → told.new ≡ told.old }
+    ensures closed { IfNone client.old.handle.value
+        ((result ≡ code.closed) × (client.new.handle.value ≡ None)) }
     ensures answer { IfSome client.old.handle.value
         (λ old. Answers (judged_code (judge bytes.now)) result) }
     ensures memory { result ≡ code.no_memory
@@ -138,8 +141,10 @@ pub extern "C" fn pitch_c_hear_quoted(
         (λ new. HearUntold bytes.now old new told.new)) }
     ensures still { 1 ≤ result → (result ≡ code.untold → ⊥) → IfSome client.old.handle.value
         (λ old. IsSomeAnd client.new.handle.value (λ new. StillHave old new)) }
+    ensures told_kept { 1 ≤ result → (result ≡ code.untold → ⊥) → told.new ≡ told.old }
     ensures kept { 1 ≤ result → (quotes.new ≡ quotes.old) × (number.new ≡ number.old) }
-    ensures closed { IfNone client.old.handle.value (result ≡ code.closed) }
+    ensures closed { IfNone client.old.handle.value
+        ((result ≡ code.closed) × (client.new.handle.value ≡ None)) }
     ensures answer { IfSome client.old.handle.value
         (λ old. AnswersQuoted (judged_code (judge bytes.now)) result) }
 {
@@ -164,7 +169,8 @@ pub extern "C" fn pitch_c_reserve(
         → IsSomeAnd client.new.handle.value (λ units. HaveSpare units unit messages) }
     ensures still { IfSome client.old.handle.value
         (λ old. IsSomeAnd client.new.handle.value (λ new. StillHave old new)) }
-    ensures closed { IfNone client.old.handle.value (result ≡ code.closed) }
+    ensures closed { IfNone client.old.handle.value
+        ((result ≡ code.closed) × (client.new.handle.value ≡ None)) }
     ensures answer { IfSome client.old.handle.value
         (λ units. Answers (client_code (client_of units unit)) result) }
 {
@@ -186,6 +192,7 @@ pub extern "C" fn pitch_c_status(
 ) -> u32
     ensures status { result ≡ code.ok → IsSomeAnd client.old.handle.value
         (λ units. TellStatus units unit told.new) }
+    ensures kept { 1 ≤ result → told.new ≡ told.old }
     ensures same { client.new.handle.value ≡ client.old.handle.value }
     ensures closed { IfNone client.old.handle.value (result ≡ code.closed) }
     ensures answer { IfSome client.old.handle.value
@@ -211,6 +218,7 @@ pub extern "C" fn pitch_c_best(
 ) -> u32
     ensures best { result ≡ code.ok → IsSomeAnd client.old.handle.value
         (λ units. TellBest units unit symbol.now side told.new) }
+    ensures kept { 1 ≤ result → told.new ≡ told.old }
     ensures same { client.new.handle.value ≡ client.old.handle.value }
     ensures closed { IfNone client.old.handle.value (result ≡ code.closed) }
     ensures answer { IfSome client.old.handle.value
@@ -235,6 +243,7 @@ pub extern "C" fn pitch_c_order(
 ) -> u32
     ensures order { result ≡ code.ok → IsSomeAnd client.old.handle.value
         (λ units. TellOrder units unit id told.new) }
+    ensures kept { 1 ≤ result → told.new ≡ told.old }
     ensures same { client.new.handle.value ≡ client.old.handle.value }
     ensures closed { IfNone client.old.handle.value (result ≡ code.closed) }
     ensures answer { IfSome client.old.handle.value
@@ -344,6 +353,7 @@ pub extern "C" fn pitch_c_level(
 ) -> u32
     ensures level { result ≡ code.ok → IsSomeAnd client.old.handle.value
         (λ units. TellLevel units unit symbol.now side price told.new) }
+    ensures kept { 1 ≤ result → told.new ≡ told.old }
     ensures same { client.new.handle.value ≡ client.old.handle.value }
     ensures closed { IfNone client.old.handle.value (result ≡ code.closed) }
     ensures answer { IfSome client.old.handle.value

@@ -41,6 +41,7 @@ fn hear_block(
     ensures untold { result ≡ code.untold
         → HearsUntold units.old units.new block.now told.new }
     ensures still { result ≡ code.no_memory → StillHave units.old units.new }
+    ensures told_kept { 1 ≤ result → (result ≡ code.untold → ⊥) → told.new ≡ told.old }
     ensures kept { 1 ≤ result → (quotes.new ≡ quotes.old) × (number.new ≡ number.old) }
     ensures answer { AnswersQuoted code.ok result }
 {
@@ -70,6 +71,7 @@ pub(crate) fn hear_quoted_first(
         quotes.old quotes.new number.new }
     ensures untold { result ≡ code.untold → HearUntold bytes.now units.old units.new told.new }
     ensures still { 1 ≤ result → (result ≡ code.untold → ⊥) → StillHave units.old units.new }
+    ensures told_kept { 1 ≤ result → (result ≡ code.untold → ⊥) → told.new ≡ told.old }
     ensures kept { 1 ≤ result → (quotes.new ≡ quotes.old) × (number.new ≡ number.old) }
     ensures answer { AnswersQuoted (judged_code (judge bytes.now)) result }
 {

@@ -1,4 +1,4 @@
-use Rattle.std.proofs.Common.{ap, sym, ◌∙◌}
+use Rattle.std.proofs.Common.{ap, sym, ◌∙◌, arith}
 use Rattle.heard_items.specs.Units.{unit_history}
 use Rattle.pitch_c.specs.Reports.{order_shown}
 use Rattle.pitch_c.proofs.Answering.{client_is}
@@ -11,5 +11,6 @@ returns-in-Some c = record {
       (c.open_order.ensures c.args.units.now.limit (unit_history c.args.unit before) (Vs c.args.unit)
       (tracks_there c.args.units.now c.args.unit c.in-Some.client.now c.in-Some.ensures.there before h)
       (keeps_there c.args.units.now c.args.unit c.in-Some.client.now c.in-Some.ensures.there before h Image Vs honest));
+  kept = λ low. absurd (omega (arith, low));
   answer = sym (client_is c.args.units.now c.args.unit c.in-Some.client.now c.in-Some.ensures.there);
 }

@@ -1,4 +1,4 @@
-use Rattle.std.proofs.Common.{ap, sym, ◌∙◌, subst}
+use Rattle.std.proofs.Common.{ap, sym, ◌∙◌, subst, arith}
 use Rattle.heard_items.specs.Units.{unit_history}
 use Rattle.client_core.specs.Tracks.{Tracks}
 use Rattle.client_core.specs.declared.client.UnitClient.{UnitClient}
@@ -13,5 +13,6 @@ returns-in-Some c = record {
       (c.status.ensures c.args.units.now.limit (unit_history c.args.unit before)
       (subst (λ (client : UnitClient). Tracks client c.args.units.now.limit (unit_history c.args.unit before)) (sym c.client.ensures)
       (tracks_there c.args.units.now c.args.unit c.in-Some.client.now c.in-Some.ensures.there before h)));
+  kept = λ low. absurd (omega (arith, low));
   answer = sym (client_is c.args.units.now c.args.unit c.in-Some.client.now c.in-Some.ensures.there);
 }

@@ -14,6 +14,7 @@ returns-clause-quoted c zero =
     let told : c.in-Ok.heard.told ≡ true = search rules in
     record {
       hears = record {
+        limit = c.in-Ok.ensures.limit;
         heard = c.in-Ok.ensures.heard;
         told_is = λ before h. c.heard_out.ensures
             ∙ ap (λ (header : Header). heard_shown header c.in-Ok.heard.change) c.header.ensures
