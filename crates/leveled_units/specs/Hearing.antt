@@ -1,5 +1,5 @@
 -- What hearing a block does to a leveled unit, and to the lines.
-use Rattle.std.specs.Prelude.{◌≡◌, ◌<◌, ℕ, List, ◌∷◌}
+use Rattle.std.specs.Prelude.{◌≡◌, ◌<◌, ◌⊎◌, ℕ, List, [], ◌∷◌}
 use Rattle.unit_packets.specs.Blocks.{Block}
 use Rattle.pitch_model.specs.History.{Entry, Raw}
 use Rattle.pitch_model.specs.Honest.{Honest}
@@ -26,6 +26,10 @@ TellsAnew client lines block =
     (Image : List Raw → ℕ → List Raw) (V : List Raw) (H : ℕ) (E : List Entry)
     → Tracks client H E → Honest Image V (heard_block block E) → Keeps client V
     → lines ≡ quotes_of_block H V E block
+
+-- a block has no messages that a client could apply
+abbrev pub IsIdle : Block → Type 0
+IsIdle block = (block.raws ≡ []) ⊎ (block.sequence ≡ 0)
 
 -- a block takes the reach of a history on
 abbrev pub Advances : ℕ → List Entry → Block → Type 0

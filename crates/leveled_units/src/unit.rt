@@ -17,7 +17,7 @@ ghost use Rattle.unit_clients.specs.Room.{HearsFreely};
 ghost use Rattle.leveled_units.specs.BestFirst.{TellsLevels};
 ghost use Rattle.leveled_units.specs.layers.Leveled.{AreLevels};
 ghost use Rattle.best_quotes.specs.LastBest.{quoted};
-ghost use Rattle.leveled_units.specs.Hearing.{TurnsBook, TellsAnew, Advances};
+ghost use Rattle.leveled_units.specs.Hearing.{TurnsBook, TellsAnew, Advances, IsIdle};
 
 use crate::best_first::{LevelList, append_levels};
 use crate::laying::lay_book;
@@ -109,6 +109,7 @@ fn hear_turned(
     ensures err { OnErr result (IsAsBefore client.old client.new) }
     ensures memory { HearsFreely client.old block.now
         → length block.now.raws + held_number client.old ≤ turns.old.spare → IsOk result }
+    ensures idle { IsIdle block.now → IsOk result }
     ensures room { OnOk result (KeepsRoom client.old client.new (length block.now.raws)) }
 {
     turns.truncate(0);
@@ -130,12 +131,15 @@ fn follow(
     ensures told { result ≡ true → (book : Book) (raws : List Raw) → IsBook book
         → turns.now ≡ turns_of book raws → AreLevels levels.old book
         → lines.new.items ≡ quoted (reach + 1) book raws }
-    ensures some { IsSome levels.old → turns.now ≡ [] → result ≡ true }
+    ensures none { turns.now ≡ [] → result ≡ true }
 {
+    lines.truncate(0);
+    if turns.is_empty() {
+        return true;
+    }
     let Some(mut kept) = levels.take() else {
         return false;
     };
-    lines.truncate(0);
     match turn_each(alloc, &mut kept, reach, turns, lines) {
         Ok(()) => {
             drop(levels.replace(kept));
@@ -148,16 +152,24 @@ fn follow(
     }
 }
 
-// Lays levels of a book where there are none.
+// Whether a block may have messages to be applied.
+fn may_apply(block: &BlockView<'_>) -> bool
+    ensures { IsIdle block.now → result ≡ false }
+{
+    block.header().count != 0 && block.header().sequence != 0
+}
+
+// Lays levels of a book where they are wanted and there are none.
 fn lay_missing(
     alloc: Global,
     book: &UnitBook,
     levels: &mut Option<Levels>,
+    wanted: bool,
 ) -> Result<(), OutOfMemory>
     ensures levels { AreLevels levels.old book.now.book → AreLevels levels.new book.now.book }
-    ensures some { OnOk result (IsSome levels.new) }
+    ensures memory { wanted ≡ false → IsOk result }
 {
-    if levels.is_some() {
+    if !wanted || levels.is_some() {
         return Ok(());
     }
     let laid = lay_book(alloc, book)?;
@@ -182,11 +194,12 @@ fn hear_followed(
     ensures quotes { IfOk result (λ heard. heard.told ≡ true
         → AreLevels levels.old (current_book client.old)
         → TellsAnew client.old lines.new.items block.now) }
-    ensures untold { IfOk result (λ heard. heard.told ≡ false → IsSome levels.old
+    ensures untold { IfOk result (λ heard. heard.told ≡ false
         → OfHistory client.old (λ H E. Advances H E block.now)) }
     ensures err { OnErr result (IsAsBefore client.old client.new) }
     ensures memory { HearsFreely client.old block.now
         → length block.now.raws + held_number client.old ≤ turns.old.spare → IsOk result }
+    ensures idle { IsIdle block.now → IsOk result }
     ensures room { OnOk result (KeepsRoom client.old client.new (length block.now.raws)) }
 {
     let reach = client.reach();
@@ -272,8 +285,8 @@ impl LeveledUnit {
     }
 
     /// Hears a block, and fills `lines` anew with what each message that it applies changes of the
-    /// best prices. Levels are laid where there are none, and kept from then on. After an error
-    /// nothing was heard.
+    /// best prices. Where it has messages, levels are laid where there are none, and kept from then
+    /// on. After an error nothing was heard.
     pub fn hear_quoted(
         &mut self,
         block: &BlockView<'_>,
@@ -286,11 +299,16 @@ impl LeveledUnit {
         // Of any venue to which the client keeps, the lines are those of the block.
         ensures quotes { IfOk result
             (λ heard. heard.told ≡ true → TellsAnew self.old lines.new.items block.now) }
+        // No error comes for a heartbeat, nor for a block without a sequence.
+        ensures memory { IsIdle block.now → IsOk result }
+        // Memory that was taken ahead for this block and for more messages still serves those.
+        ensures room { OnOk result (KeepsRoom self.old self.new (length block.now.raws)) }
         // They are told wherever no message is applied.
         ensures untold { IfOk result (λ heard. heard.told ≡ false
             → OfHistory self.old (λ H E. Advances H E block.now)) }
     {
-        lay_missing(self.alloc, self.client.book(), &mut self.levels)?;
+        let wanted = may_apply(block);
+        lay_missing(self.alloc, self.client.book(), &mut self.levels, wanted)?;
         hear_followed(
             self.alloc,
             &mut self.client,
@@ -311,7 +329,7 @@ impl LeveledUnit {
             return Err(OutOfMemory);
         }
         if self.leveled {
-            lay_missing(self.alloc, self.client.book(), &mut self.levels)?;
+            lay_missing(self.alloc, self.client.book(), &mut self.levels, true)?;
         }
         self.client.reserve(messages)
     }

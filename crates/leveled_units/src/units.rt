@@ -14,7 +14,7 @@ ghost use Rattle.unit_clients.specs.Clients.{IsClient, TracksAt, IsSlotAsBefore,
 ghost use Rattle.unit_clients.specs.Clients.{HaveHeard, client_of};
 ghost use Rattle.unit_clients.specs.Room.{HearsFreely, HearFreely, HaveSpare, KeepRoom};
 ghost use Rattle.best_quotes.specs.Quoting.{quotes_of_block};
-ghost use Rattle.leveled_units.specs.Hearing.{TellBlock, Advances};
+ghost use Rattle.leveled_units.specs.Hearing.{TellBlock, Advances, IsIdle};
 
 use crate::unit::{Heard, LeveledUnit};
 use best_quotes::QuoteLines;
@@ -113,6 +113,9 @@ fn hear_quoted_at(
     ensures untold { IfOk result (λ heard. heard.told ≡ false → (before : List Block) (unit : ℕ)
         → IsClient limit before unit slot.old
         → Advances limit (unit_history unit before) block.now) }
+    ensures memory { IsSome slot.old → IsIdle block.now → IsOk result }
+    ensures room { OnOk result (IfSome slot.old (λ client. IsSomeAnd slot.new
+        (λ client'. KeepsRoom client client' (length block.now.raws)))) }
 {
     match slot {
         Some(unit) => unit.hear_quoted(block, lines),
@@ -207,6 +210,12 @@ impl LeveledUnits {
         // of the block.
         ensures quotes { IfOk result (λ heard. heard.told ≡ true
             → TellBlock self.old lines.new.items block.now) }
+        // No error comes for a heartbeat of a unit that has a client, nor for a block without a
+        // sequence.
+        ensures memory { IsSome (client_of self.old block.now.unit) → IsIdle block.now
+            → IsOk result }
+        // Memory that was taken ahead for this block and for more messages still serves those.
+        ensures room { OnOk result (KeepRoom self.old self.new block.now) }
         // They are told wherever the block applies no message.
         ensures untold { IfOk result (λ heard. heard.told ≡ false → (before : List Block)
             → HaveHeard self.old before

@@ -42,10 +42,10 @@ some_applied book [] turns are some = absurd (some are)
 some_applied book (raw ∷ raws) turns are some = omega arith
 
 pub returns-clause-untold : goal.returns-clause-untold
-returns-clause-untold c = λ untold some H E tracks.
+returns-clause-untold c = λ untold H E tracks.
     let a = c.in_ok-change.ensures.turned in
     let book = current_book c.args.client.now in
-    let applied = some_applied book a.0 c.as_slice.result.now (c.as_slice.ensures ∙ a.1) (λ none. false≢true (sym untold ∙ c.follow-told.ensures.some some none)) in
+    let applied = some_applied book a.0 c.as_slice.result.now (c.as_slice.ensures ∙ a.1) (λ none. false≢true (sym untold ∙ c.follow-told.ensures.none none)) in
     let up = a.2.reach_is in
     let before = c.reach-reach.ensures.reached in
     let now = c.reach-reached.ensures.reached in

@@ -10,6 +10,9 @@ use Rattle.leveled_units.proofs.unit.LeveledUnit.hear_quoted.Goals as goal
 pub returns-clause-keeps : goal.returns-clause-keeps
 returns-clause-keeps c = rw (← c.self.view_is) c.hear_followed.ensures.keeps
 
+pub returns-clause-room : goal.returns-clause-room
+returns-clause-room c = rw (← c.self.view_is) c.hear_followed.ensures.room
+
 -- the levels of its book are there, whether they were or were laid
 pub returns-clause-quotes : goal.returns-clause-quotes
 returns-clause-quotes c =
