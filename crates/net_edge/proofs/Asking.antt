@@ -55,7 +55,7 @@ module _ (at : LinkEnd) (bytes : List ℕ) (answer : NetTaken) (more : List (Lis
   answered_world = ap (λ (n : Scene). n.world) answered_is ∙ at_world beside end at
 
   answered_keeps : Keeps now.world left
-  answered_keeps = keeps_then now.world took left (takes_keep at bytes answer (is_group_open (answer ∷ (at_end at now).answers)) now.world) (put_keeps at (length (waits_at at took)) took)
+  answered_keeps = keeps_then (takes_keep at bytes answer (is_group_open (answer ∷ (at_end at now).answers)) now.world) (put_keeps at (length (waits_at at took)) took)
 
   asks_beside : Asks (TheEnd at) now (with_end at end beside)
   asks_beside = record {

@@ -1,35 +1,26 @@
 -- A heartbeat, and the second that passes with it.
-use Rattle.std.proofs.Common.{◌≡◌, ◌+◌, ℕ, true, List, [], ◌∷◌, Option, sym, ap, ◌∙◌, subst}
+use Rattle.std.proofs.Common.{◌≡◌, ◌+◌, ◌%◌, ℕ, Bool, true, cond, arith, List, [], ◌∷◌, Option, sym, ap, ◌∙◌, subst}
+use Rattle.std.proofs.lemmas.Bool.Decides.{nat_tests}
 use Rattle.std.specs.List.{AllByRecursion}
 use Rattle.pitch_io.specs.declared.line.Line.TheVariants.{A, B}
-use Rattle.pitch_io.specs.declared.net.NetDone.{NetDone}
-use Rattle.pitch_io.specs.Nets.{Call, NetDoneFailed, Send}
+use Rattle.pitch_io.specs.declared.net.NetDone.TheVariants.{Done}
+use Rattle.pitch_io.specs.Nets.{Call, Send}
 use Rattle.pitch_io.specs.layers.Coming.{ListsCall}
 use Rattle.pitch_model.specs.History.{Raw}
 use Rattle.unit_packets.specs.BlockBytes.{block_bytes, heartbeat_block}
 use Rattle.heard_items.specs.Datagrams.{IsPiece}
 use Rattle.venue_end.specs.Came.{VenueState, Beaten, on_lines}
-use Rattle.pitch_text.specs.declared.verb.Session.TheVariants.{Grp, Spin}
-use Rattle.pitch_text.specs.declared.verb.Verb.TheVariants as verbs
-use Rattle.world_model.specs.Ends.{default_limits}
 use Rattle.world_model.specs.State.{State}
-use Rattle.world_model.specs.Verbs.{seconds, settled}
 use Rattle.net_edge.specs.Acting.{all_tick, in_world, sent_on}
 use Rattle.net_edge.specs.Due.{IsDuePiece, Setting, beat, demo_unit, is_tenth}
-use Rattle.net_edge.specs.Scene.{Scene, done_with}
+use Rattle.net_edge.specs.Scene.{Scene}
 use Rattle.net_edge.specs.declared.stage.Stage.{Stage}
 use Rattle.net_edge.specs.layers.Ends.{Becomes, HandsOut, Holds, demo_venue}
-use Rattle.net_edge.specs.layers.Playing.{DemoAt, Plays, StageAt, after_beat, all_put}
+use Rattle.net_edge.specs.layers.Playing.{DemoAt, Plays, StageAt, after_beat, after_due_beat, all_put}
 use Rattle.net_edge.proofs.Runs.{play_beat}
 use Rattle.net_edge.proofs.Standing.{messages_many, stood_at}
-use Rattle.net_edge.proofs.Taking.{settled_replayed}
+use Rattle.net_edge.proofs.Taking.{ticked_replayed}
 use Rattle.net_edge.proofs.Turning.{none_waits}
-
--- a second changes nothing of what the proxy has for the gap line
-ticked_replayed : (w : State) → (all_tick w).replayed ≡ w.replayed
-ticked_replayed w =
-    let passed : State = seconds demo_unit default_limits (done_with verbs.Advertise w) in
-    settled_replayed Spin (settled demo_unit default_limits Grp passed) ∙ settled_replayed Grp passed
 
 the_first : List (List ℕ) → List ℕ
 the_first [] = []
@@ -52,20 +43,25 @@ module _ {V : Type 0} (is : V → VenueState → Type 0) (s : Setting) (base : L
       subst (λ (Q : List Raw). IsPiece Q demo_unit heartbeat) stood.sent.accepted
       (subst (λ (ds : List (List ℕ)). AllByRecursion (IsPiece now.world.venue.messages demo_unit) ds) (sym out.lined) out.pieces).0
 
-  -- it was sent on both lines, and a second passed
-  module _ (c1 c2 : Option (List Call)) (new : Stage V) (answer : NetDone) (tenth : is_tenth now.turn ≡ true) (sends : Plays s base calls now → IsDuePiece s now.turn heartbeat → Plays s base c1 (sent_on A (heartbeat ∷ []) now)) (lists : ListsCall c1 c2 (Send B heartbeat answer)) (well : NetDoneFailed answer → ⊥) where
+  -- in a tenth turn it was sent on both lines, and a second passed
+  module _ (turn : ℕ) (turn_is : now.turn ≡ turn) (tenth : turn % 10 ≡ 0) (c1 c2 : Option (List Call)) (sends : Plays s base calls now → IsDuePiece s now.turn heartbeat → Plays s base c1 (sent_on A (heartbeat ∷ []) now)) (lists : ListsCall c1 c2 (Send B heartbeat Done)) where
+    is_due : is_tenth now.turn ≡ true
+    is_due = ap is_tenth turn_is ∙ grind (arith, nat_tests, tenth)
+
     abbrev pub passed : Scene
     passed = in_world all_tick (sent_on B (heartbeat ∷ []) (sent_on A (heartbeat ∷ []) now))
 
     pub passed_plays : Plays s base c2 passed
-    passed_plays = play_beat s base c1 c2 (sent_on A (heartbeat ∷ []) now) heartbeat answer lists well heartbeat_is tenth heartbeat_piece (sends at.at.plays heartbeat_piece)
+    passed_plays = play_beat s base c1 c2 (sent_on A (heartbeat ∷ []) now) heartbeat lists heartbeat_is is_due heartbeat_piece (sends at.at.plays heartbeat_piece)
 
-    pub passed_stage : Becomes is e new all_tick → StageAt is s base c2 new passed
-    passed_stage ticks = record { few = at.at.few; holds = ticks.holds now.world at.at.holds; ended = ticks.ended ∙ at.at.ended; plays = passed_plays }
+    module _ (new : Stage V) (ticks : Becomes is e new all_tick) where
+      pub passed_stage : StageAt is s base c2 new passed
+      passed_stage = record { few = at.at.few; holds = ticks.holds now.world at.at.holds; ended = ticks.ended ∙ at.at.ended; plays = passed_plays }
 
-    pub beaten : (c3 : Option (List Call)) (newer : Stage V) → StageAt is s base c3 newer (all_put passed) → DemoAt is s base c3 newer (after_beat s now)
-    beaten c3 newer stage = subst (λ (b : List ℕ). DemoAt is s base c3 newer (all_put (in_world all_tick (sent_on B (b ∷ []) (sent_on A (b ∷ []) now))))) heartbeat_is (record {
-      at = stage;
-      put = none_waits passed.world;
-      replayed = at.replayed ∙ sym (ticked_replayed now.world);
-    })
+      pub beaten : (c3 : Option (List Call)) (newer : Stage V) → (StageAt is s base c2 new passed → StageAt is s base c3 newer (all_put passed)) → DemoAt is s base c3 newer (after_due_beat s now)
+      beaten c3 newer puts = subst (λ (b : Bool). DemoAt is s base c3 newer (cond b (after_beat s now) now)) (sym is_due)
+          (subst (λ (b : List ℕ). DemoAt is s base c3 newer (all_put (in_world all_tick (sent_on B (b ∷ []) (sent_on A (b ∷ []) now))))) heartbeat_is (record {
+            at = puts passed_stage;
+            put = none_waits passed.world;
+            replayed = at.replayed ∙ sym (ticked_replayed now.world);
+          }))

@@ -15,7 +15,7 @@ use Rattle.world_model.specs.State.{State}
 use Rattle.net_edge.specs.Acting.{answered_on, end_took, heard_by, heard_on, is_group_open, sent_on, taken_at, takes}
 use Rattle.net_edge.specs.Breaking.{Breaks}
 use Rattle.net_edge.specs.Due.{AreDuePieces, Setting, call_room, demo_unit}
-use Rattle.net_edge.specs.Scene.{Scene, AtEnd, at_end, got_end, is_got, waits_at}
+use Rattle.net_edge.specs.Scene.{Scene, at_end, got_end, is_got, waits_at}
 use Rattle.net_edge.specs.declared.end_set.EndSet.{EndSet}
 use Rattle.net_edge.specs.declared.error.DemoError.{DemoError}
 use Rattle.net_edge.specs.declared.error.DemoError.TheVariants as errors
@@ -97,27 +97,24 @@ module _ {V : Type 0} (is : V → VenueState → Type 0) (at : LinkEnd) (s : Set
       goes = may.goes answer ∙ sym is_on
 
       take_holds : Holds is e1 there.world
-      take_holds =
-          let end : AtEnd = end_took bytes answer (at_end at now) in
-          subst (λ (w : State). Holds is e1 (takes at bytes answer (is_group_open (answer ∷ answers_of (TheEnd at) now)) w)) (sym (at_world now end at))
-          (subst (λ (b : Bool). Holds is e1 (takes at bytes answer b now.world)) (sym goes) (holds now.world stands.at.holds))
+      take_holds = rw (at_world now (end_took bytes answer (at_end at now)) at, goes) (holds now.world stands.at.holds)
 
       pub put_breaks : (c2 : Option (List Call)) (error : DemoError) → PutBreaks is at c1 c2 e1 error → Breaks s base c2 error
       put_breaks c2 error breaks = breaks s base there there.world take_holds refl take_plays
 
-      module _ (c2 : Option (List Call)) (puts : PutsAll is at c1 c2 e1) (lines : List (List ℕ)) (replays : (w : State) → Holds is e0 w → Replays w (takes at bytes answer goes_on) [] lines) where
+      module _ (c2 : Option (List Call)) (puts : PutsAll is at c1 c2 e1) (lines : List (List ℕ)) (replays : (w : State) → Holds is e0 w → Replays w (takes at bytes answer goes_on w) [] lines) where
         put_plays : Plays s base c2 (all_put_at at there)
         put_plays = puts s base there there.world take_holds refl take_plays
 
         stood_now : Stood s now
         stood_now = stood_at s stands.at.few base c0 now stands.at.plays
 
-        new : Replays now.world (takes at bytes answer goes_on) [] lines
+        new : Replays now.world (takes at bytes answer goes_on now.world) [] lines
         new = replays now.world stands.at.holds
 
         due : AreDuePieces s (all_put_at at there).turn lines
-        due = subst (λ (t : ℕ). AreDuePieces s t lines) (sym (put_turn at there ∙ at_turn now (end_took bytes answer (at_end at now)) at))
-            (subst (λ (Q : List Raw). AllByRecursion (IsPiece Q demo_unit) lines) stood_now.sent.accepted (subst (AllByRecursion (IsPiece now.world.venue.messages demo_unit)) (sym new.hands.lined) new.hands.pieces))
+        due = rw (put_turn at there, at_turn now (end_took bytes answer (at_end at now)) at, new.hands.lined)
+            (subst (λ (Q : List Raw). AllByRecursion (IsPiece Q demo_unit) new.more) stood_now.sent.accepted new.hands.pieces)
 
         pub gap_breaks : (c3 : Option (List Call)) (error : DemoError) → ((s : Setting) (base : List Call) (n : Scene) → Plays s base c2 n → AreDuePieces s n.turn lines → Breaks s base c3 error) → Breaks s base c3 error
         gap_breaks c3 error breaks = breaks s base (all_put_at at there) put_plays due

@@ -28,9 +28,9 @@ put_ended at now = grind arith
 abbrev pub PutsAll : {V : Type 0} → (V → VenueState → Type 0) → LinkEnd → Option (List Call) → Option (List Call) → Stage V → Type 0
 PutsAll is at c0 c1 e0 = (s : Setting) (base : List Call) (now : Scene) (w : State) → Holds is e0 w → waits_at at w ≡ waits_at at now.world → Plays s base c0 now → Plays s base c1 (all_put_at at now)
 
-pub put_more : {V : Type 0} (is : V → VenueState → Type 0) (at : LinkEnd) (s : Setting) (base : List Call) (c0 c1 : Option (List Call)) (e0 e1 : Stage V) (now : Scene) → Becomes is e0 e1 (put_one at) → PutsAll is at c0 c1 e0
-    → StageAt is s base c0 e0 now → StageAt is s base c1 e1 (all_put_at at now)
-put_more is at s base c0 c1 e0 e1 now becomes plays stage = record {
+pub put_more : {V : Type 0} {is : V → VenueState → Type 0} (at : LinkEnd) {s : Setting} {base : List Call} {c0 c1 : Option (List Call)} {e0 e1 : Stage V} {now : Scene} → Becomes is e0 e1 (put_one at) → PutsAll is at c0 c1 e0 → StageAt is s base c0 e0 now
+    → StageAt is s base c1 e1 (all_put_at at now)
+put_more {is = is} at {s = s} {base = base} {e1 = e1} {now = now} becomes plays stage = record {
   few = stage.few;
   holds = subst (Holds is e1) (sym (put_world at now)) (becomes.holds now.world stage.holds);
   ended = becomes.ended ∙ stage.ended ∙ sym (put_ended at now);

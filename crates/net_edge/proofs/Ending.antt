@@ -1,5 +1,5 @@
 -- A run that ended is a demo.
-use Rattle.std.proofs.Common.{◌≡◌, ℕ, ◌<◌, ◌≤◌, ◌++◌, List, take, Option, Some, Result, Ok, Err, refl, sym, ap, ◌∙◌, subst, arith}
+use Rattle.std.proofs.Common.{◌≡◌, ℕ, ◌<◌, ◌≤◌, ◌++◌, List, Option, Some, Result, Ok, Err, refl, sym, ap, ◌∙◌, subst, arith}
 use Rattle.std.proofs.lemmas.Bool.{false≢true}
 use Rattle.std.specs.List.{AllByRecursion}
 use Rattle.std.specs.Result.{IsErr, IsErrAnd}
@@ -7,23 +7,19 @@ use Rattle.pitch_io.specs.declared.line.Line.{Line}
 use Rattle.pitch_io.specs.declared.line.Line.TheVariants.{A, B, Gap}
 use Rattle.pitch_io.specs.Nets.{Call}
 use Rattle.pitch_messages.specs.Raw.{IsRaw}
-use Rattle.pitch_model.specs.Book.{book_after}
-use Rattle.pitch_model.specs.History.{Raw}
-use Rattle.pitch_model.specs.Honest.{Honest}
-use Rattle.pitch_model.specs.Image.{image}
-use Rattle.pitch_model.specs.Reach.{reach}
 use Rattle.venue_core.specs.Plan.{plan}
 use Rattle.feed_lines.specs.UnitLine.{unit_line}
 use Rattle.net_edge.specs.Acting.{scene_of}
-use Rattle.net_edge.specs.Demo.{IsDemo, EndsDemo, IsLast, AddsCalls, AreShort, AreTotalsOf, all_messages}
-use Rattle.net_edge.specs.Due.{Setting, accepted, demo_unit, hold_limit}
+use Rattle.net_edge.specs.Breaking.{ListsAdded}
+use Rattle.net_edge.specs.Demo.{IsDemo, EndsDemo, IsLast, AddsCalls, AreShort, all_messages}
+use Rattle.net_edge.specs.Due.{Setting, accepted, demo_unit}
 use Rattle.net_edge.specs.Scene.{Scene, line_in}
-use Rattle.net_edge.specs.Steps.{Step}
+use Rattle.net_edge.specs.Steps.{Step, calls_of}
 use Rattle.net_edge.specs.Turns.{AreSteps, IsOver, client_status}
 use Rattle.net_edge.specs.declared.error.DemoError.{DemoError}
 use Rattle.net_edge.specs.declared.error.DemoError.TheVariants as errors
 use Rattle.net_edge.specs.layers.Ends.{AreMessages}
-use Rattle.net_edge.specs.layers.Playing.{IsAllSent, ListsCalls, Plays, calls_before}
+use Rattle.net_edge.specs.layers.Playing.{IsAllSent, Plays, calls_before}
 use Rattle.net_edge.specs.layers.Sending.{AreTotalsIfHonest, DoesDemo}
 use Rattle.net_edge.proofs.Carried.{carried_is_honest}
 use Rattle.net_edge.proofs.Feeding.{sent_pieces}
@@ -31,7 +27,7 @@ use Rattle.net_edge.proofs.Fitting.{due_short, replied_short}
 use Rattle.net_edge.proofs.Sending.{none_called}
 use Rattle.net_edge.proofs.Standing.{stood}
 
-adds : (before after : Option (List Call)) (run : List Step) → ListsCalls (calls_before before) after run → AddsCalls run before after
+adds : (before after : Option (List Call)) (run : List Step) → ListsAdded (calls_before before) after (calls_of run) → AddsCalls run before after
 adds (Some before) (Some after) run told = told
 adds before after run told = tt
 
@@ -56,9 +52,7 @@ module _ (s : Setting) (run : List Step) (few : s.count ≤ 1000) (steps : AreSt
         last = last;
         pieces = sent_pieces s run steps;
         short = all_are_short (subst (AllByRecursion IsRaw) all are.raws);
-        book = λ carried.
-            subst (λ (V : List Raw). AreTotalsOf (book_after (take (reach hold_limit R.world.client.heard) V)) orders quantity) all
-            (totals (subst (λ (V : List Raw). Honest image V R.world.client.heard) (sym all) (carried_is_honest s run few steps last.above carried)));
+        book = λ carried. rw all at (totals (rw all (carried_is_honest s run few steps last.above carried)));
       }
 
 pub demo_is : (s : Setting) (before after : Option (List Call)) (text text' : List ℕ) (now : Scene) (orders quantity : ℕ) → s.count ≤ 1000 → Plays s (calls_before before) after now → IsOver s now → IsLast s now → AreMessages now.world.venue.messages → AreTotalsIfHonest now.world orders quantity

@@ -16,7 +16,8 @@ mod Turning
 mod Beating
 mod Publishing
 mod Starting
-mod Growing
+mod Moving
+mod Proxying
 mod Feeding
 mod Fitting
 mod Carried

@@ -57,12 +57,11 @@ module _ (s : Setting) (few : s.count ≤ 1000) (turn : ℕ) (some : 1 ≤ turn)
       let many : commanded.venue.sent ≡ accepted s (turn - 1) = sent_same (refusal w.venue.messages (plan_command s.number demo_unit turn)) ∙ is.all_sent ∙ messages_many s (turn - 1) in
       ap (λ (n : ℕ). packed demo_unit (n + 1) (drop n commanded.venue.messages)) many ∙ ap (λ (V : List Raw). packed demo_unit (accepted s (turn - 1) + 1) (drop (accepted s (turn - 1)) V)) accepted_is
 
-  pub turn_datagrams : (lines : List (List ℕ)) → HandsOut commanded.venue [] lines (on_lines demo_venue Flushed commanded.venue) → lines ≡ new_datagrams s turn
-  turn_datagrams lines hands = hands.lined ∙ out_is
-
-  pub turn_pieces : (lines : List (List ℕ)) → HandsOut commanded.venue [] lines (on_lines demo_venue Flushed commanded.venue) → AreDuePieces s turn lines
-  turn_pieces lines hands =
-      subst (λ (V : List Raw). AllByRecursion (IsPiece V demo_unit) lines) accepted_is (subst (AllByRecursion (IsPiece commanded.venue.messages demo_unit)) (sym hands.lined) hands.pieces)
+  pub turn_datagrams : (lines : List (List ℕ)) → HandsOut commanded.venue [] lines (on_lines demo_venue Flushed commanded.venue) → (lines ≡ new_datagrams s turn) × AreDuePieces s turn lines
+  turn_datagrams lines hands = (
+    hands.lined ∙ out_is,
+    subst (λ (V : List Raw). AllByRecursion (IsPiece V demo_unit) lines) accepted_is (subst (AllByRecursion (IsPiece commanded.venue.messages demo_unit)) (sym hands.lined) hands.pieces),
+  )
 
 -- ---- What is handed out is sent on both lines
 -- what a call that sends datagrams on a line, unless they are lost, ensures of the net's calls
@@ -71,25 +70,17 @@ SendsOn line lost list before after =
     (s : Setting) (base : List Call) (now : Scene) → Plays s base before now → AreDuePieces s now.turn (bytes_in list) → Plays s base after (sent_on line (cond lost [] (bytes_in list)) now)
 
 module _ {V : Type 0} (is : V → VenueState → Type 0) (s : Setting) (base : List Call) (turn : ℕ) (c0 : Option (List Call)) (old : Stage V) (now : Scene) (begins : TurnBegins is s base c0 old turn now)
-    (given : List (Roomy ℕ)) (handed : (w : State) → Holds is old w → IsAllSent s (turn - 1) w → AreDuePieces s turn (bytes_in given)) where
+    (given : List (Roomy ℕ)) (handed : (w : State) → Holds is old w → IsAllSent s (turn - 1) w → (bytes_in given ≡ new_datagrams s turn) × AreDuePieces s turn (bytes_in given)) where
   -- they are pieces, as a scene of the turn has it
-  in_turn : (list : List (Roomy ℕ)) (n : Scene) → n.turn ≡ turn → list ≡ given → AreDuePieces s n.turn (bytes_in list)
-  in_turn list n turn_is same =
-      subst (λ (t : ℕ). AreDuePieces s t (bytes_in list)) (sym turn_is)
-      (subst (λ (l : List (Roomy ℕ)). AreDuePieces s turn (bytes_in l)) (sym same) (handed begins.world begins.holds begins.all_sent))
-
-  pub pieces_on_a : (list : List (Roomy ℕ)) → list ≡ given → AreDuePieces s now.turn (bytes_in list)
-  pieces_on_a list same = in_turn list now begins.turn_is same
+  pub pieces_in : (list : List (Roomy ℕ)) → list ≡ given → AreDuePieces s now.turn (bytes_in list)
+  pieces_in list same = rw (same, begins.turn_is) (handed begins.world begins.holds begins.all_sent).1
 
   module _ (c1 : Option (List Call)) (lost_a : Bool) (list_a : List (Roomy ℕ)) (same_a : list_a ≡ given) (sends_a : SendsOn A lost_a list_a c0 c1) where
     abbrev pub on_a : Scene
     on_a = sent_on A (cond lost_a [] (bytes_in list_a)) now
 
     pub plays_a : Plays s base c1 on_a
-    plays_a = sends_a s base now begins.plays (pieces_on_a list_a same_a)
-
-    pub pieces_on_b : (list : List (Roomy ℕ)) → list ≡ given → AreDuePieces s on_a.turn (bytes_in list)
-    pieces_on_b list same = in_turn list on_a begins.turn_is same
+    plays_a = sends_a s base now begins.plays (pieces_in list_a same_a)
 
     module _ (c2 : Option (List Call)) (lost_b : Bool) (list_b : List (Roomy ℕ)) (same_b : list_b ≡ given) (sends_b : SendsOn B lost_b list_b c1 c2) (middle : Stage V) (becomes : Becomes is old middle (published s turn)) where
       abbrev pub on_both : Scene
@@ -101,16 +92,16 @@ module _ {V : Type 0} (is : V → VenueState → Type 0) (s : Setting) (base : L
           few = begins.few;
           holds = subst (Holds is middle) (sym begins.world_is) (becomes.holds begins.world begins.holds);
           ended = becomes.ended ∙ begins.ended;
-          plays = sends_b s base on_a plays_a (pieces_on_b list_b same_b);
+          plays = sends_b s base on_a plays_a (pieces_in list_b same_b);
         };
         put = begins.put;
         replayed = begins.replayed;
       }
 
       -- the copies that the rule of losses lets through are those of the turn, and then came its heartbeat
-      module _ (datagrams : (w : State) → Holds is old w → IsAllSent s (turn - 1) w → bytes_in given ≡ new_datagrams s turn) (rule_a : lost_a ≡ is_lost s.number demo_unit turn 1) (rule_b : lost_b ≡ is_lost s.number demo_unit turn 2) (some : 1 ≤ turn) where
+      module _ (rule_a : lost_a ≡ is_lost s.number demo_unit turn 1) (rule_b : lost_b ≡ is_lost s.number demo_unit turn 2) (some : 1 ≤ turn) where
         new_ones : (list : List (Roomy ℕ)) → list ≡ given → bytes_in list ≡ new_datagrams s turn
-        new_ones list same = ap (λ (l : List (Roomy ℕ)). bytes_in l) same ∙ datagrams begins.world begins.holds begins.all_sent
+        new_ones list same = ap (λ (l : List (Roomy ℕ)). bytes_in l) same ∙ (handed begins.world begins.holds begins.all_sent).0
 
         copies_a : cond lost_a [] (bytes_in list_a) ≡ copies s A turn
         copies_a = ap (λ (b : Bool). cond b [] (bytes_in list_a)) rule_a ∙ ap (λ (ds : List (List ℕ)). cond (is_lost s.number demo_unit turn 1) [] ds) (new_ones list_a same_a)

@@ -1,47 +1,48 @@
 -- One step more in a run that is under way.
-use Rattle.std.proofs.Common.{◌≡◌, ◌≤◌, ℕ, ◌+◌, List, [], ◌∷◌, ◌++◌, take, drop, length, Option, None, Some, true, refl, ap, sym, ◌∙◌, subst, append_assoc, length-append, arith}
+use Rattle.std.proofs.Common.{◌≡◌, ◌≤◌, ℕ, ◌+◌, List, [], ◌∷◌, ◌++◌, take, drop, length, Option, None, Some, true, ap, sym, ◌∙◌, subst, append_assoc, length-append, arith}
 use Rattle.std.proofs.lemmas.List.{append-nil, length-take-le}
 use Rattle.std.proofs.Math.Seq.{take-add}
 use Rattle.pitch_io.specs.declared.line.Line.{Line}
 use Rattle.pitch_io.specs.declared.line.Line.TheVariants.{B}
 use Rattle.pitch_io.specs.declared.net.LinkEnd.{LinkEnd}
 use Rattle.pitch_io.specs.declared.net.LinkEnd.TheVariants.{GrpClient}
-use Rattle.pitch_io.specs.declared.net.NetDone.{NetDone}
-use Rattle.pitch_io.specs.Nets.{Call, NetDoneFailed, Send}
+use Rattle.pitch_io.specs.declared.net.NetDone.TheVariants.{Done}
+use Rattle.pitch_io.specs.Nets.{Call, Send}
 use Rattle.pitch_io.specs.layers.Coming.{ListsCall}
 use Rattle.net_edge.specs.Acting.{called, scene_after, sent_on, end_puts, in_world, all_tick, next_turn}
+use Rattle.net_edge.specs.Breaking.{ListsAdded}
 use Rattle.net_edge.specs.Due.{Setting, IsDuePiece, beat, is_tenth}
-use Rattle.net_edge.specs.layers.Playing.{ListsCalls, Plays}
+use Rattle.net_edge.specs.layers.Playing.{Plays}
 use Rattle.net_edge.specs.Scene.{Scene, waits_at}
-use Rattle.net_edge.specs.Steps.{Step, Did, Beat, Turn, call_at, calls_of}
+use Rattle.net_edge.specs.Steps.{Did, Beat, Turn, calls_of}
 use Rattle.net_edge.specs.Turns.{GoesWell, MayCall, MayCome, IsOver, MayGoOn}
 use Rattle.net_edge.proofs.Waits.{put_at_both, put_at_none, waits_left}
 
-told_more : (base : List Call) (calls calls' : Option (List Call)) (step : Step) (call : Call) (run : List Step) → call_at step ≡ call ∷ [] → ListsCalls base calls run → ListsCall calls calls' call → ListsCalls base calls' (step ∷ run)
-told_more base calls None step call run at told lists = tt
-told_more base None (Some after) step call run at told lists = absurd lists
-told_more base (Some before) (Some after) step call run at told lists = lists ∙ ap (λ (x : List Call). call ∷ x) told ∙ ap (λ (x : List Call). (x ++ calls_of run) ++ base) (sym at)
+pub told_then : (base : List Call) (calls calls' : Option (List Call)) (call : Call) (added : List Call) → ListsAdded base calls added → ListsCall calls calls' call → ListsAdded base calls' (call ∷ added)
+told_then base calls None call added told lists = tt
+told_then base None (Some after) call added told lists = absurd lists
+told_then base (Some before) (Some after) call added told lists = lists ∙ ap (λ (x : List Call). call ∷ x) told
 
 -- a call more
 pub play_call : (s : Setting) (base : List Call) (calls calls' : Option (List Call)) (now : Scene) (call : Call) → ListsCall calls calls' call → GoesWell call → MayCall s call now → Plays s base calls now → Plays s base calls' (called call now)
 play_call s base calls calls' now call lists well may plays = (
   Did call ∷ plays.0,
   record {
-    told = told_more base calls calls' (Did call) call plays.0 refl plays.1.told lists;
+    told = told_then base calls calls' call (calls_of plays.0) plays.1.told lists;
     steps = ((well, subst (MayCall s call) (sym plays.1.now_is) may), plays.1.steps);
     now_is = ap (called call) plays.1.now_is;
   },
 )
 
 -- the turn's heartbeat on line B, with its tick
-pub play_beat : (s : Setting) (base : List Call) (calls calls' : Option (List Call)) (now : Scene) (heartbeat : List ℕ) (answer : NetDone) → ListsCall calls calls' (Send B heartbeat answer) → (NetDoneFailed answer → ⊥) → heartbeat ≡ beat s now.turn → is_tenth now.turn ≡ true → IsDuePiece s now.turn heartbeat
+pub play_beat : (s : Setting) (base : List Call) (calls calls' : Option (List Call)) (now : Scene) (heartbeat : List ℕ) → ListsCall calls calls' (Send B heartbeat Done) → heartbeat ≡ beat s now.turn → is_tenth now.turn ≡ true → IsDuePiece s now.turn heartbeat
     → Plays s base calls now → Plays s base calls' (in_world all_tick (sent_on B (heartbeat ∷ []) now))
-play_beat s base calls calls' now heartbeat answer lists well is tenth piece plays = (
-  Beat heartbeat answer ∷ plays.0,
+play_beat s base calls calls' now heartbeat lists is tenth piece plays = (
+  Beat heartbeat Done ∷ plays.0,
   record {
-    told = told_more base calls calls' (Beat heartbeat answer) (Send B heartbeat answer) plays.0 refl plays.1.told lists;
-    steps = (subst (MayCome s (Beat heartbeat answer)) (sym plays.1.now_is) (well, is, tenth, piece), plays.1.steps);
-    now_is = ap (scene_after s (Beat heartbeat answer)) plays.1.now_is;
+    told = told_then base calls calls' (Send B heartbeat Done) (calls_of plays.0) plays.1.told lists;
+    steps = (subst (MayCome s (Beat heartbeat Done)) (sym plays.1.now_is) ((λ failed. failed), is, tenth, piece), plays.1.steps);
+    now_is = ap (scene_after s (Beat heartbeat Done)) plays.1.now_is;
   },
 )
 
@@ -50,15 +51,11 @@ pub play_turn : (s : Setting) (base : List Call) (calls : Option (List Call)) (n
 play_turn s base calls now over goes plays = (
   Turn ∷ plays.0,
   record {
-    told = told_turn base calls plays.0 plays.1.told;
+    told = plays.1.told;
     steps = (subst (MayCome s Turn) (sym plays.1.now_is) (over, goes), plays.1.steps);
     now_is = ap (next_turn s) plays.1.now_is;
   },
 )
-  where
-    told_turn : (base : List Call) (calls : Option (List Call)) (run : List Step) → ListsCalls base calls run → ListsCalls base calls (Turn ∷ run)
-    told_turn base None run told = tt
-    told_turn base (Some calls) run told = told
 
 -- ---- What was sent and put
 -- a datagram more is of the same turn

@@ -3,7 +3,8 @@ use Rattle.std.proofs.Common.{◌≡◌, ◌⊎◌, ◌||◌, inl, inr, Bool, tr
 use Rattle.pitch_io.specs.declared.line.Line.{Line}
 use Rattle.pitch_io.specs.declared.net.LinkEnd.{LinkEnd}
 use Rattle.pitch_io.specs.declared.net.LinkEnd.TheVariants.{GrpClient, GrpServer, SpinClient, SpinServer}
-use Rattle.net_edge.specs.Scene.{Scene, OnLine, AtEnd, at_end, is_cut, is_done, line_in, session_at, with_end, with_line}
+use Rattle.world_model.specs.Ends.{stands}
+use Rattle.net_edge.specs.Scene.{Scene, OnLine, AtEnd, at_end, is_done, line_in, session_at, with_end, with_line}
 use Rattle.net_edge.specs.declared.turn.Place.{Place}
 use Rattle.net_edge.specs.declared.turn.Place.TheVariants.{Line as TheLine, End as TheEnd}
 use Rattle.net_edge.specs.layers.Playing.{answers_of}
@@ -62,22 +63,11 @@ module _ (now : Scene) where
     on_sent other same = grind arith
 
 -- ---- What is asked no more
-either_true : (a b : Bool) → (a || b) ≡ true → (a ≡ true) ⊎ (b ≡ true)
-either_true true b e = inl refl
-either_true false b e = inr e
-
-or_right : (a b : Bool) → b ≡ true → (a || b) ≡ true
-or_right true b e = refl
-or_right false b e = e
-
-not_true : (b : Bool) → not b ≡ true → b ≡ false
-not_true true e = absurd (cc)
-not_true false e = refl
+either_stays : (a b a' b' : Bool) → (a ≡ true → a' ≡ true) → (b ≡ false → b' ≡ false) → (a || not b) ≡ true → (a' || not b') ≡ true
+either_stays true b a' b' ended gone done = grind (arith, ended refl)
+either_stays false false a' b' ended gone done = grind (arith, gone refl)
+either_stays false true a' b' ended gone done = absurd (cc)
 
 -- an end that got End has got it, and a connection that was cut stays cut
 pub done_stays : (at : LinkEnd) (now after : Scene) → ((at_end at now).ended ≡ true → (at_end at after).ended ≡ true) → Keeps now.world after.world → is_done at now ≡ true → is_done at after ≡ true
-done_stays at now after ended keeps done =
-    elim (either_true (at_end at now).ended (is_cut at now.world) done) [
-      | inl got ↦ ap (λ (b : Bool). b || is_cut at after.world) (ended got)
-      | inr cut ↦ or_right (at_end at after).ended (is_cut at after.world) (ap not (keeps.gone (session_at at) (not_true _ cut)))
-    ]
+done_stays at now after ended keeps done = either_stays (at_end at now).ended (stands (session_at at) now.world.client) _ _ ended (keeps.gone (session_at at)) done

@@ -31,7 +31,6 @@ use Rattle.venue_end.specs.Servers.{proxy_setup, spin_says, spin_setup}
 use Rattle.venue_end.specs.Sessions.{Session as Served_session, happens_at, session_of}
 use Rattle.venue_end.specs.Stands.{ServersAre}
 use Rattle.venue_end.specs.declared.servers.Servers.{Servers}
-use Rattle.venue_end.specs.declared.setup.VenueSetup.{VenueSetup}
 use Rattle.venue_end.specs.layers.Serving.{ComesTo, OfServers, StillHas}
 use Rattle.venue_end.proofs.Ends.{servers_still}
 use Rattle.served_laws.proofs.Sessions.{became, one_becomes}
@@ -43,11 +42,10 @@ use Rattle.net_edge.specs.layers.Ends.{AreMessages, HandsOut, demo_venue}
 use Rattle.net_edge.specs.layers.Shared.{Accepts, Advertises, SharedHas, SharedIs}
 
 -- ---- The start
-pub opens : (market : Writing) (servers : Servers) (unsent : List Raw) (s : VenueSetup) → s ≡ demo_venue → unsent ≡ [] → SharedHas market (new_journal demo_unit default_limits.kept) → ServersAre s servers nothing_came
-    → SharedIs market servers unsent 1 nothing_came
-opens market servers unsent s s_is none has are = record {
+pub opens : (market : Writing) (servers : Servers) (unsent : List Raw) → unsent ≡ [] → SharedHas market (new_journal demo_unit default_limits.kept) → ServersAre demo_venue servers nothing_came → SharedIs market servers unsent 1 nothing_came
+opens market servers unsent none has are = record {
   has = has;
-  are = subst (λ (v : VenueSetup). ServersAre v servers nothing_came) s_is are;
+  are = are;
   within = omega arith;
   unsent_is = none;
   next_is = refl;
@@ -132,22 +130,18 @@ module _ (market : Writing) (servers : Servers) (unsent : List Raw) (next : ℕ)
   flush_hands law lines lines' lined packing =
       let size : length (drop now.sent now.messages) ≡ length now.messages - now.sent = length-drop now.sent now.messages in
       let within = is.within in
-      let first : packed demo_unit next unsent ≡ packed demo_unit (now.sent + 1) (drop now.sent now.messages) = ap (λ (n : ℕ). packed demo_unit n unsent) is.next_is ∙ ap (packed demo_unit (now.sent + 1)) is.unsent_is in
-      let one : IsPacking demo_unit (now.sent + 1) unsent (packed demo_unit (now.sent + 1) unsent) = subst (λ (n : ℕ). IsPacking demo_unit n unsent (packed demo_unit n unsent)) is.next_is packing in
-      let two : IsPacking demo_unit (now.sent + 1) (drop now.sent now.messages) (packed demo_unit (now.sent + 1) (drop now.sent now.messages)) = subst (λ (rs : List Raw). IsPacking demo_unit (now.sent + 1) rs (packed demo_unit (now.sent + 1) rs)) is.unsent_is one in
       record {
-        lined = lined ∙ ap (λ (ds : List (List ℕ)). lines ++ ds) first;
-        pieces = law now.messages demo_unit (now.sent + 1) (drop now.sent now.messages) (packed demo_unit (now.sent + 1) (drop now.sent now.messages)) (omega arith) (omega (arith, size, within)) (venues_after now.messages now.sent) two;
+        lined = rw (is.next_is, is.unsent_is) at lined;
+        pieces = law now.messages demo_unit (now.sent + 1) (drop now.sent now.messages) _ (omega arith) (omega (arith, size, within)) (venues_after now.messages now.sent) (rw (is.next_is, is.unsent_is) at packing);
       }
 
   pub beat_hands : ((V : List Raw) (unit next : ℕ) → unit < 256 → 0 < next → next ≤ length V + 1 → next ≤ last_sequence + 1 → IsPiece V unit (block_bytes (heartbeat_block unit next)))
       → (bytes : List ℕ) → bytes ≡ block_bytes (heartbeat_block demo_unit next) → HandsOut now [] (bytes ∷ []) (on_lines demo_venue Beaten now)
   beat_hands law bytes bytes_are =
-      let same : bytes ≡ block_bytes (heartbeat_block demo_unit (now.sent + 1)) = bytes_are ∙ ap (λ (n : ℕ). block_bytes (heartbeat_block demo_unit n)) is.next_is in
       let within = is.within in
       let few = is.has.messages.few in
       record {
-        lined = ap (λ (b : List ℕ). b ∷ []) same;
+        lined = rw (bytes_are, is.next_is);
         pieces = (law now.messages demo_unit (now.sent + 1) (omega arith) (omega arith) (omega (arith, within)) (omega (arith, within, few)), tt);
       }
 

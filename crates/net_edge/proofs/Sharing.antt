@@ -1,5 +1,5 @@
 -- The market of a shared unit. A server that was told of all, and that has seen no more than all afterwards, answered at just that.
-use Rattle.std.proofs.Common.{◌≡◌, ℕ, zero, suc, ◌+◌, ◌≤◌, Bool, true, false, cond, ◌||◌, List, [], ◌∷◌, ◌++◌, length, length-append, replicate, Option, None, Some, Result, Ok, Err, refl, sym, ap, ◌∙◌, subst, arith, is_some}
+use Rattle.std.proofs.Common.{◌≡◌, ℕ, zero, suc, ◌+◌, ◌≤◌, Bool, true, false, cond, ◌||◌, List, [], ◌∷◌, ◌++◌, length, length-append, replicate, Option, None, Some, Ok, refl, sym, ap, ◌∙◌, subst, arith, is_some}
 use Rattle.std.proofs.lemmas.Bool.Decides.{nat_tests}
 use Rattle.std.proofs.lemmas.List.{append-nil}
 use Rattle.std.proofs.lemmas.Option.{none-some, same_Some}
@@ -68,10 +68,7 @@ pub accepted_is : (history now : List Operation) (raw last : Raw) → now ≡ th
 accepted_is history now raw last is at = same_Some last raw (at ∙ ap (λ (h : List Operation). last_of (accepted_by h)) is ∙ last_accepted history raw)
 
 pub accepted_there : (history now : List Operation) (raw : Raw) → now ≡ then_done history (Accept raw) → None ≡ last_of (accepted_by now) → ⊥
-accepted_there history now raw is none = apart raw (none ∙ ap (λ (h : List Operation). last_of (accepted_by h)) is ∙ last_accepted history raw)
-  where
-    apart : (r : Raw) → ◌≡◌ {A = Option Raw} None (Some r) → ⊥
-    apart r e = cc
+accepted_there history now raw is none = none-some raw (none ∙ ap (λ (h : List Operation). last_of (accepted_by h)) is ∙ last_accepted history raw)
 
 -- a writer that has done nothing has the journal of that
 pub has_nothing : (writer : Writing) → writer.history ≡ [] → writer.cut_off ≡ false → SharedHas writer (new_journal demo_unit default_limits.kept)
@@ -88,10 +85,7 @@ has_nothing writer nothing reaches = record {
 -- one that was answered with a sequence was not refused
 not_refused : (r : Option VenueError) (wanted given : ℕ) → IsAnswer r wanted (Ok given) → r ≡ None
 not_refused None wanted given is = refl
-not_refused (Some error) wanted given is = absurd (err_ok is)
-  where
-    err_ok : ◌≡◌ {A = Result ℕ VenueError} (Ok given) (Err error) → ⊥
-    err_ok e = cc
+not_refused (Some error) wanted given is = absurd (cc)
 
 last_not_refused : (xs : List (Option VenueError)) (last : Option VenueError) → first_refusal (xs ++ last ∷ []) ≡ None → last ≡ None
 last_not_refused [] None e = e

@@ -20,6 +20,7 @@ use Rattle.venue_end.specs.Came.{VenueCame, VenueState, on_gap_line}
 use Rattle.venue_end.specs.Sessions.{session_of}
 use Rattle.world_model.specs.Ends.{at_client, default_limits, server_took, stands, the_session}
 use Rattle.world_model.specs.State.{State, up_taken}
+use Rattle.world_model.specs.Stands.{HasClient}
 use Rattle.world_model.specs.Verbs.{client_has, hears, hears_block, pumps, sent_whole, venue_has}
 use Rattle.world_model.proofs.Sessions.{pumped_is}
 use Rattle.net_edge.specs.Acting.{server_answers, server_takes}
@@ -36,16 +37,19 @@ module _ {V : Type 0} (is : V → VenueState → Type 0) where
   becomes_none e = record { holds = λ w h. h; ended = refl }
 
   -- ---- What comes to an end
-  pub venue_becomes : (e : Stage V) (venue : V) (new : VenueCame) → HasCome is e.venue venue new → Becomes is e (record e { venue = venue }) (venue_has demo_unit default_limits new)
-  venue_becomes e venue new comes = record {
-    holds = λ w h. record {
-      venue = comes w.venue h.venue;
-      client = record { unit_is = h.client.unit_is; end_is = h.client.end_is; grp_up = h.client.grp_up; spin_up = h.client.spin_up };
-      came = h.came;
-      came_is = h.came_is;
-    };
+  -- the venue's end becomes another, and nothing else that a stage holds changes
+  alone_becomes : (e : Stage V) (venue : V) (becomes : State → State) → ((w : State) → is e.venue w.venue → is venue (becomes w).venue) → ((w : State) → becomes w ≡ record w { venue = (becomes w).venue; replayed = (becomes w).replayed })
+      → Becomes is e (record e { venue = venue }) becomes
+  alone_becomes e venue becomes comes alone = record {
+    holds = λ w h.
+        let v : State = record w { venue = (becomes w).venue; replayed = (becomes w).replayed } in
+        let client : HasClient demo_unit default_limits e.client v = record { unit_is = h.client.unit_is; end_is = h.client.end_is; grp_up = h.client.grp_up; spin_up = h.client.spin_up } in
+        subst (Holds is (record e { venue = venue })) (sym (alone w)) (record { venue = comes w h.venue; client = client; came = h.came; came_is = h.came_is });
     ended = refl;
   }
+
+  pub venue_becomes : (e : Stage V) (venue : V) (new : VenueCame) → HasCome is e.venue venue new → Becomes is e (record e { venue = venue }) (venue_has demo_unit default_limits new)
+  venue_becomes e venue new comes = alone_becomes e venue (venue_has demo_unit default_limits new) (λ w. comes w.venue) (λ w. refl)
 
   pub client_stands : (e : Stage V) (w : State) → (h : Holds is e w) → SendingStands demo_client e.client h.came
   client_stands e w h = record { unit_is = h.client.unit_is; end_is = subst (EndIs demo_client e.client.end) h.came_is h.client.end_is }
@@ -82,17 +86,10 @@ module _ {V : Type 0} (is : V → VenueState → Type 0) where
             let all : List Came = map (λ (b : Block). Heard b) blocks in
             ap (λ (l : List Came). l ++ came) (reverse-append (Heard block ∷ []) all) ∙ append_assoc (reverse all) (Heard block ∷ []) came
 
-    heard_is : (blocks : List Block) (w : State) → (hears demo_unit default_limits line blocks w).venue ≡ w.venue
-    heard_is [] w = refl
-    heard_is (block ∷ blocks) w = heard_is blocks (hears_block demo_unit default_limits line block w)
-
-    heard_grp : (blocks : List Block) (w : State) → (hears demo_unit default_limits line blocks w).grp_up ≡ w.grp_up
-    heard_grp [] w = refl
-    heard_grp (block ∷ blocks) w = heard_grp blocks (hears_block demo_unit default_limits line block w)
-
-    heard_spin : (blocks : List Block) (w : State) → (hears demo_unit default_limits line blocks w).spin_up ≡ w.spin_up
-    heard_spin [] w = refl
-    heard_spin (block ∷ blocks) w = heard_spin blocks (hears_block demo_unit default_limits line block w)
+    -- nothing but the client and its notes changes
+    heard_alone : (blocks : List Block) (w : State) → hears demo_unit default_limits line blocks w ≡ record w { client = (hears demo_unit default_limits line blocks w).client; notes = (hears demo_unit default_limits line blocks w).notes }
+    heard_alone [] w = refl
+    heard_alone (block ∷ blocks) w = heard_alone blocks (hears_block demo_unit default_limits line block w)
 
     pub hears_becomes : (e : Stage V) (client : SendingEnd) (blocks : List Block) → HearsBlocks e.client client blocks → Becomes is e (record e { client = client }) (hears demo_unit default_limits line (of_unit demo_unit blocks))
     hears_becomes e client blocks heard = record {
@@ -101,17 +98,14 @@ module _ {V : Type 0} (is : V → VenueState → Type 0) where
           let then : SendingStands demo_client client (blocks_came ours h.came) =
           subst (λ (unit : ℕ). SendingStands demo_client client (blocks_came (of_unit unit blocks) h.came)) h.client.unit_is (heard.stands demo_client h.came (client_stands e w h)) in
           let came_is = heard_came ours w h.came h.came_is in
-          record {
-            venue = subst (is e.venue) (sym (heard_is ours w)) h.venue;
-            client = record {
-              unit_is = then.unit_is;
-              end_is = subst (EndIs demo_client client.end) (sym came_is) then.end_is;
-              grp_up = heard.waits.proxy ∙ h.client.grp_up ∙ sym (heard_grp ours w);
-              spin_up = heard.waits.spin_server ∙ h.client.spin_up ∙ sym (heard_spin ours w);
-            };
-            came = blocks_came ours h.came;
-            came_is = came_is;
-          };
+          let after : State = hears demo_unit default_limits line ours w in
+          let has : HasClient demo_unit default_limits client (record w { client = after.client; notes = after.notes }) = record {
+            unit_is = then.unit_is;
+            end_is = subst (EndIs demo_client client.end) (sym came_is) then.end_is;
+            grp_up = heard.waits.proxy ∙ h.client.grp_up;
+            spin_up = heard.waits.spin_server ∙ h.client.spin_up;
+          } in
+          subst (Holds is (record e { client = client })) (sym (heard_alone ours w)) (record { venue = h.venue; client = has; came = blocks_came ours h.came; came_is = came_is });
       ended = refl;
     }
 
@@ -121,30 +115,15 @@ module _ {V : Type 0} (is : V → VenueState → Type 0) where
     fed_becomes e venue comes = by session comes
       where
         by : (x : Session) → HasCome is e.venue venue (server_took x bytes) → Becomes is e (record e { venue = venue }) (server_answers x bytes (Got count))
-        by Grp comes = record {
-          holds = λ w h.
-              let then = (venue_becomes e venue (server_took Grp bytes) comes).holds w h in
-              record {
-                venue = then.venue;
-                client = record { unit_is = then.client.unit_is; end_is = then.client.end_is; grp_up = then.client.grp_up; spin_up = then.client.spin_up };
-                came = then.came;
-                came_is = then.came_is;
-              };
-          ended = refl;
-        }
-        by Spin comes = venue_becomes e venue (server_took Spin bytes) comes
+        by Grp comes = alone_becomes e venue (server_answers Grp bytes (Got count)) (λ w. comes w.venue) (λ w. refl)
+        by Spin comes = alone_becomes e venue (server_answers Spin bytes (Got count)) (λ w. comes w.venue) (λ w. refl)
 
   -- a running image is sent to its end
-  pub whole_becomes : (e : Stage V) (venue : V) → ((w : State) → is e.venue w.venue → is venue (sent_whole demo_unit default_limits w).venue) → Becomes is e (record e { venue = venue }) (sent_whole demo_unit default_limits)
-  whole_becomes e venue whole = record {
-    holds = λ w h. subst (Holds is (record e { venue = venue })) (sym (pumped_is demo_unit default_limits (pumps demo_venue (session_of the_session w.venue.spins)) w)) (record {
-      venue = whole w h.venue;
-      client = record { unit_is = h.client.unit_is; end_is = h.client.end_is; grp_up = h.client.grp_up; spin_up = h.client.spin_up };
-      came = h.came;
-      came_is = h.came_is;
-    });
-    ended = refl;
-  }
+  whole_becomes : (e : Stage V) (venue : V) → ((w : State) → is e.venue w.venue → is venue (sent_whole demo_unit default_limits w).venue) → Becomes is e (record e { venue = venue }) (sent_whole demo_unit default_limits)
+  whole_becomes e venue whole = alone_becomes e venue (sent_whole demo_unit default_limits) whole (λ w.
+      let all : State = sent_whole demo_unit default_limits w in
+      let n : ℕ = pumps demo_venue (session_of the_session w.venue.spins) in
+      pumped_is demo_unit default_limits n w ∙ ap (λ (lines : List (List ℕ)). record w { venue = all.venue; replayed = lines }) (sym (pumped_replayed n w)))
 
   -- nothing came
   pub nothing_becomes : (session : Session) (into : List ℕ) (taken : NetTaken) (e : Stage V) → ((count : ℕ) → taken ≡ Got count → ⊥) → Becomes is e e (server_answers session (came taken into) taken)
@@ -156,57 +135,45 @@ module _ {V : Type 0} (is : V → VenueState → Type 0) where
   pub serves_whole : (session : Session) (bytes : List ℕ) (taken : NetTaken) (goes_on : Bool) (old mid : Stage V) (venue : V) → session ≡ Spin → goes_on ≡ false → Becomes is old mid (server_answers session bytes taken)
       → ((w : State) → is mid.venue w.venue → is venue (sent_whole demo_unit default_limits w).venue) → Becomes is old (record mid { venue = venue }) (server_takes session bytes taken goes_on)
   serves_whole session bytes taken goes_on old mid venue spin over first whole =
-      subst (λ (x : Session). Becomes is old (record mid { venue = venue }) (server_takes x bytes taken goes_on)) (sym spin)
-      (subst (λ (b : Bool). Becomes is old (record mid { venue = venue }) (server_takes Spin bytes taken b)) (sym over)
-      (becomes_then (subst (λ (x : Session). Becomes is old mid (server_answers x bytes taken)) spin first) (whole_becomes mid venue whole)))
+      rw (spin, over) (becomes_then (rw spin at first) (whole_becomes mid venue whole))
 
   -- what is sent to a server, some of it put
   pub taken_becomes : (session : Session) (count : ℕ) (e : Stage V) (client : SendingEnd) → waiting (at_client session) client ≡ drop count (waiting (at_client session) e.client)
       → ((other : LinkSession) → (other ≡ at_client session → ⊥) → waiting other client ≡ waiting other e.client) → OfSending e.client (λ c before. SendingStands c client before)
       → Becomes is e (record e { client = client }) (up_taken session count)
-  taken_becomes session count e client left others stands = by session left others
+  taken_becomes session count e client left others stands = record { holds = λ w h. by session w h left others; ended = refl }
     where
-      held : (w : State) → Holds is e w → EndIs demo_client client.end w.client
-      held w h = subst (EndIs demo_client client.end) (sym h.came_is) (stands demo_client h.came (client_stands e w h)).end_is
-
-      by : (x : Session) → waiting (at_client x) client ≡ drop count (waiting (at_client x) e.client) → ((other : LinkSession) → (other ≡ at_client x → ⊥) → waiting other client ≡ waiting other e.client) → Becomes is e (record e { client = client }) (up_taken x count)
-      by Grp left others = record {
-        holds = λ w h. record {
-          venue = h.venue;
-          client = record { unit_is = (stands demo_client h.came (client_stands e w h)).unit_is; end_is = held w h; grp_up = left ∙ ap (drop count) h.client.grp_up; spin_up = others SpinLink (λ e. cc) ∙ h.client.spin_up };
-          came = h.came;
-          came_is = h.came_is;
-        };
-        ended = refl;
+      by : (x : Session) (w : State) → (h : Holds is e w) → waiting (at_client x) client ≡ drop count (waiting (at_client x) e.client) → ((other : LinkSession) → (other ≡ at_client x → ⊥) → waiting other client ≡ waiting other e.client)
+          → Holds is (record e { client = client }) (up_taken x count w)
+      by Grp w h left others = let then = stands demo_client h.came (client_stands e w h) in record {
+        venue = h.venue;
+        client = record { unit_is = then.unit_is; end_is = rw h.came_is then.end_is; grp_up = left ∙ ap (drop count) h.client.grp_up; spin_up = others SpinLink (λ e. cc) ∙ h.client.spin_up };
+        came = h.came;
+        came_is = h.came_is;
       }
-      by Spin left others = record {
-        holds = λ w h. record {
-          venue = h.venue;
-          client = record { unit_is = (stands demo_client h.came (client_stands e w h)).unit_is; end_is = held w h; grp_up = others Proxy (λ e. cc) ∙ h.client.grp_up; spin_up = left ∙ ap (drop count) h.client.spin_up };
-          came = h.came;
-          came_is = h.came_is;
-        };
-        ended = refl;
+      by Spin w h left others = let then = stands demo_client h.came (client_stands e w h) in record {
+        venue = h.venue;
+        client = record { unit_is = then.unit_is; end_is = rw h.came_is then.end_is; grp_up = others Proxy (λ e. cc) ∙ h.client.grp_up; spin_up = left ∙ ap (drop count) h.client.spin_up };
+        came = h.came;
+        came_is = h.came_is;
       }
 
 -- ---- What the proxy has for the gap line by that
-pub fed_replays : (session : Session) (bytes : List ℕ) (count : ℕ) (w : State) (lines lines' : List (List ℕ)) → HandsOut w.venue lines lines' (on_gap_line demo_venue (server_took session bytes) w.venue) → Replays w (server_answers session bytes (Got count)) lines lines'
+pub fed_replays : (session : Session) (bytes : List ℕ) (count : ℕ) (w : State) (lines lines' : List (List ℕ)) → HandsOut w.venue lines lines' (on_gap_line demo_venue (server_took session bytes) w.venue) → Replays w (server_answers session bytes (Got count) w) lines lines'
 fed_replays Grp bytes count w lines lines' hands = record { more = on_gap_line demo_venue (server_took Grp bytes) w.venue; hands = hands; replayed = refl }
 fed_replays Spin bytes count w lines lines' hands = record { more = []; hands = hands; replayed = sym (append-nil w.replayed) }
 
-pub none_replays : (w : State) (becomes : State → State) (lines : List (List ℕ)) → (becomes w).replayed ≡ w.replayed → Replays w becomes lines lines
-none_replays w becomes lines same = record { more = []; hands = record { lined = sym (append-nil lines); pieces = tt }; replayed = same ∙ sym (append-nil w.replayed) }
+pub none_replays : (w v : State) (lines : List (List ℕ)) → v.replayed ≡ w.replayed → Replays w v lines lines
+none_replays w v lines same = record { more = []; hands = record { lined = sym (append-nil lines); pieces = tt }; replayed = same ∙ sym (append-nil w.replayed) }
 
-pub whole_replays : (w : State) (becomes : State → State) (lines lines' : List (List ℕ)) → Replays w becomes lines lines' → Replays w (λ v. sent_whole demo_unit default_limits (becomes v)) lines lines'
-whole_replays w becomes lines lines' is = record { more = is.more; hands = is.hands; replayed = pumped_replayed (pumps demo_venue (session_of the_session (becomes w).venue.spins)) (becomes w) ∙ is.replayed }
-
-pub nothing_replays : (session : Session) (into : List ℕ) (taken : NetTaken) (w : State) (lines : List (List ℕ)) → ((count : ℕ) → taken ≡ Got count → ⊥) → Replays w (server_answers session (came taken into) taken) lines lines
+pub nothing_replays : (session : Session) (into : List ℕ) (taken : NetTaken) (w : State) (lines : List (List ℕ)) → ((count : ℕ) → taken ≡ Got count → ⊥) → Replays w (server_answers session (came taken into) taken w) lines lines
 nothing_replays session into (Got count) w lines none = absurd (none count refl)
-nothing_replays Grp into taken w lines none = none_replays w (λ v. v) lines refl
-nothing_replays Spin into taken w lines none = none_replays w (λ v. v) lines refl
+nothing_replays Grp into taken w lines none = none_replays w w lines refl
+nothing_replays Spin into taken w lines none = none_replays w w lines refl
 
-pub serve_replays : (session : Session) (bytes : List ℕ) (taken : NetTaken) (goes_on : Bool) (w : State) (lines lines' : List (List ℕ)) → session ≡ Spin → goes_on ≡ false → Replays w (server_answers session bytes taken) lines lines' → Replays w (server_takes session bytes taken goes_on) lines lines'
-serve_replays session bytes taken goes_on w lines lines' spin over first =
-    subst (λ (x : Session). Replays w (server_takes x bytes taken goes_on) lines lines') (sym spin)
-    (subst (λ (b : Bool). Replays w (server_takes Spin bytes taken b) lines lines') (sym over)
-    (whole_replays w (server_answers Spin bytes taken) lines lines' (subst (λ (x : Session). Replays w (server_answers x bytes taken) lines lines') spin first)))
+pub serve_replays : (session : Session) (bytes : List ℕ) (taken : NetTaken) (goes_on : Bool) (w : State) (lines lines' : List (List ℕ)) → session ≡ Spin → goes_on ≡ false → Replays w (server_answers session bytes taken w) lines lines'
+    → Replays w (server_takes session bytes taken goes_on w) lines lines'
+serve_replays session bytes taken goes_on w lines lines' spin over first = rw (spin, over) (whole (rw spin at first))
+  where
+    whole : Replays w (server_answers Spin bytes taken w) lines lines' → Replays w (server_takes Spin bytes taken false w) lines lines'
+    whole is = let v : State = server_answers Spin bytes taken w in record { more = is.more; hands = is.hands; replayed = pumped_replayed (pumps demo_venue (session_of the_session v.venue.spins)) v ∙ is.replayed }

@@ -1,6 +1,6 @@
 -- Along a run the venue has accepted and sent the messages up to the turn, and each server has one
 -- session at most.
-use Rattle.std.proofs.Common.{◌≡◌, ◌≤◌, ◌<◌, ◌+◌, ◌-◌, ℕ, suc, Bool, true, false, cond, List, [], ◌∷◌, ◌++◌, length, arith, Option, Some, None, refl, sym, ap, ◌∙◌, subst}
+use Rattle.std.proofs.Common.{◌≡◌, ◌≤◌, ◌<◌, ◌-◌, ℕ, suc, Bool, true, false, cond, List, [], ◌∷◌, ◌++◌, length, map, arith, Option, Some, None, refl, sym, ap, ◌∙◌, subst}
 use Rattle.std.proofs.lemmas.Bool.Decides.{nat_tests}
 use Rattle.std.proofs.lemmas.List.{length-map}
 use Rattle.std.specs.Prelude.{nat_le}
@@ -21,9 +21,9 @@ use Rattle.venue_end.specs.Sessions.{happens_at}
 use Rattle.world_model.specs.Ends.{default_limits}
 use Rattle.world_model.specs.State.{State}
 use Rattle.world_model.specs.Verbs.{seconds, settled}
-use Rattle.net_edge.specs.Acting.{all_tick, answered_on, bytes_put, called, end_took, heard_by, is_group_open, put_at, scene_after, scene_of, takes}
+use Rattle.net_edge.specs.Acting.{all_tick, bytes_put, called, is_group_open, scene_after, scene_of}
 use Rattle.net_edge.specs.Due.{Setting, accepted, demo_unit, messages}
-use Rattle.net_edge.specs.Scene.{Scene, OnLine, AtEnd, at_end, connected, done_with, line_in, published}
+use Rattle.net_edge.specs.Scene.{Scene, at_end, connected, done_with, published}
 use Rattle.net_edge.specs.Steps.{Step, Did, Beat, Turn}
 use Rattle.net_edge.specs.layers.Ends.{demo_venue}
 use Rattle.net_edge.specs.layers.Playing.{IsAllSent, Plays}
@@ -80,29 +80,18 @@ module _ (s : Setting) (few : s.count ≤ 1000) where
   connected_alone = record { proxies = omega arith; spins = omega arith }
 
 -- ---- A tick
-pub record Ticks (w v : State) : Type 0 where
-  pub messages : v.venue.messages ≡ w.venue.messages
-  pub sent : v.venue.sent ≡ w.venue.sent
-  pub seconds : v.venue.spent.now ≡ w.venue.spent.now + 1
-  pub proxies : length v.venue.proxies ≤ length w.venue.proxies
-  pub spins : length v.venue.spins ≤ length w.venue.spins
+-- once the second passed, at both ends
+pub tick_keeps : (w : State) → Keeps (seconds demo_unit default_limits (done_with verbs.Advertise w)) (all_tick w)
+tick_keeps w =
+    let passed : State = seconds demo_unit default_limits (done_with verbs.Advertise w) in
+    keeps_then (settled_keeps Grp passed) (settled_keeps Spin (settled demo_unit default_limits Grp passed))
 
-pub tick_is : (w : State) → Ticks w (all_tick w)
-tick_is w =
-    let told : State = done_with verbs.Advertise w in
-    let passed : State = seconds demo_unit default_limits told in
-    let one = settled_keeps Grp passed in
-    let two = settled_keeps Spin (settled demo_unit default_limits Grp passed) in
-    let all = keeps_then passed _ _ one two in
-    let proxies = length-map w.venue.proxies (happens_at (proxy_says demo_venue) Ticked) in
-    let spins = length-map told.venue.spins (happens_at (spin_says demo_venue) Ticked) in
-    let first = length-map w.venue.spins (happens_at (spin_says demo_venue) (Told (length w.venue.messages))) in
+passed_alone : (w : State) → IsAlone w → IsAlone (seconds demo_unit default_limits (done_with verbs.Advertise w))
+passed_alone w is =
+    let told = happens_at (spin_says demo_venue) (Told (length w.venue.messages)) in
     record {
-      messages = all.messages;
-      sent = all.sent;
-      seconds = all.seconds;
-      proxies = (let few = all.proxies in omega (arith, few, proxies));
-      spins = (let few = all.spins in omega (arith, few, spins, first));
+      proxies = omega (arith, is.proxies, length-map w.venue.proxies (happens_at (proxy_says demo_venue) Ticked));
+      spins = omega (arith, is.spins, length-map w.venue.spins told, length-map (map told w.venue.spins) (happens_at (spin_says demo_venue) Ticked));
     }
 
 -- ---- Along a run
@@ -111,43 +100,32 @@ called_turn call now = grind arith
 
 pub called_keeps : (call : Call) (now : Scene) → Keeps now.world (called call now).world
 called_keeps (Begin answer) now = keeps_none now.world
-called_keeps (Send line datagram answer) now = subst (Keeps now.world) (sym (on_world now (record (line_in line now) { sent = (line_in line now).sent ++ datagram ∷ [] }) line)) (keeps_none now.world)
-called_keeps (Next line room bytes answer) now =
-    let on : OnLine = answered_on line bytes answer now in
-    subst (λ (w : State). Keeps now.world (heard_by line bytes answer w)) (sym (on_world now on line)) (heard_keeps line bytes answer now.world)
-called_keeps (Put at piece answer) now =
-    let end : AtEnd = record (at_end at now) { put = (at_end at now).put ++ bytes_put answer piece } in
-    subst (λ (w : State). Keeps now.world (put_at at (length (bytes_put answer piece)) w)) (sym (at_world now end at)) (put_keeps at (length (bytes_put answer piece)) now.world)
-called_keeps (Take at room bytes answer) now =
-    let end : AtEnd = end_took bytes answer (at_end at now) in
-    let goes_on : Bool = is_group_open (answer ∷ (at_end at now).answers) in
-    subst (λ (w : State). Keeps now.world (takes at bytes answer goes_on w)) (sym (at_world now end at)) (takes_keep at bytes answer goes_on now.world)
+called_keeps (Send line datagram answer) now = rw on_world (keeps_none now.world)
+called_keeps (Next line room bytes answer) now = rw on_world (heard_keeps line bytes answer now.world)
+called_keeps (Put at piece answer) now = rw at_world (put_keeps at (length (bytes_put answer piece)) now.world)
+called_keeps (Take at room bytes answer) now = rw at_world (takes_keep at bytes answer (is_group_open (answer ∷ (at_end at now).answers)) now.world)
 
 pub record Stood (s : Setting) (now : Scene) : Type 0 where
   pub sent : IsAllSent s now.turn now.world
   pub alone : IsAlone now.world
 
 module _ (s : Setting) (few : s.count ≤ 1000) where
+  sent_stays : (turn : ℕ) (w v : State) → Keeps w v → IsAllSent s turn w → IsAllSent s turn v
+  sent_stays turn w v keeps is = record { accepted = keeps.messages ∙ is.accepted; all_sent = keeps.sent ∙ is.all_sent }
+
+  alone_stays : (w v : State) → Keeps w v → IsAlone w → IsAlone v
+  alone_stays w v keeps is = record { proxies = omega (arith, keeps.proxies, is.proxies); spins = omega (arith, keeps.spins, is.spins) }
+
   stood_more : (step : Step) (now : Scene) → Stood s now → Stood s (scene_after s step now)
-  stood_more (Did call) now is =
-      let keeps = called_keeps call now in
-      let p = keeps.proxies in
-      let q = keeps.spins in
-      let x = is.alone.proxies in
-      let y = is.alone.spins in
-      record {
-        sent = subst (λ (t : ℕ). IsAllSent s t (called call now).world) (sym (called_turn call now)) (record { accepted = keeps.messages ∙ is.sent.accepted; all_sent = keeps.sent ∙ is.sent.all_sent });
-        alone = record { proxies = omega (arith, p, x); spins = omega (arith, q, y) };
-      }
+  stood_more (Did call) now is = record {
+    sent = rw called_turn (sent_stays now.turn now.world _ (called_keeps call now) is.sent);
+    alone = alone_stays now.world _ (called_keeps call now) is.alone;
+  }
   stood_more (Beat heartbeat answer) now is =
-      let ticks = tick_is now.world in
-      let p = ticks.proxies in
-      let q = ticks.spins in
-      let x = is.alone.proxies in
-      let y = is.alone.spins in
+      let passed : State = seconds demo_unit default_limits (done_with verbs.Advertise now.world) in
       record {
-        sent = record { accepted = ticks.messages ∙ is.sent.accepted; all_sent = ticks.sent ∙ is.sent.all_sent };
-        alone = record { proxies = omega (arith, p, x); spins = omega (arith, q, y) };
+        sent = sent_stays now.turn passed _ (tick_keeps now.world) (record { accepted = is.sent.accepted; all_sent = is.sent.all_sent });
+        alone = alone_stays passed _ (tick_keeps now.world) (passed_alone now.world is.alone);
       }
   stood_more Turn now is = record { sent = published_sent s few now.turn now.world is.sent; alone = published_alone s few (suc now.turn) now.world is.alone }
 

@@ -1,5 +1,5 @@
 -- How a run and a turn start, and where a run stops.
-use Rattle.std.proofs.Common.{◌≡◌, ◌≤◌, ◌<◌, ◌+◌, ◌-◌, ◌⊎◌, inl, inr, ℕ, suc, List, [], length, Option, None, Some, refl, sym, ap, ◌∙◌, subst, arith}
+use Rattle.std.proofs.Common.{◌≡◌, ◌≤◌, ◌<◌, ◌+◌, ◌-◌, ◌⊎◌, inl, inr, ℕ, suc, List, [], Option, None, Some, refl, sym, ap, ◌∙◌, subst, arith}
 use Rattle.std.proofs.Math.Seq.{drop-length}
 use Rattle.pitch_io.specs.declared.net.LinkEnd.{LinkEnd}
 use Rattle.pitch_io.specs.declared.net.LinkEnd.TheVariants.{GrpClient, GrpServer, SpinClient, SpinServer}
@@ -11,7 +11,7 @@ use Rattle.pitch_model.specs.declared.status.Status.TheVariants.{Current}
 use Rattle.sending_end.specs.Stands.{NoneWaits, SendingStands}
 use Rattle.venue_end.specs.Came.{VenueState, nothing_came}
 use Rattle.world_model.specs.State.{State, start}
-use Rattle.net_edge.specs.Acting.{next_turn, put_at}
+use Rattle.net_edge.specs.Acting.{next_turn}
 use Rattle.net_edge.specs.Demo.{IsLast}
 use Rattle.net_edge.specs.Due.{Setting}
 use Rattle.net_edge.specs.Scene.{Scene, connected, first_scene, published, waits_at}
@@ -19,6 +19,7 @@ use Rattle.net_edge.specs.Turns.{MayGoOn, client_status}
 use Rattle.net_edge.specs.declared.stage.Stage.{Stage}
 use Rattle.net_edge.specs.layers.Ends.{Becomes, Holds, demo_client, no_ends}
 use Rattle.net_edge.specs.layers.Playing.{IsAllSent, IsSentTo, IsUncalled, NothingWaits, Plays, TurnBegins, TurnEnds, all_put_at, calls_before}
+use Rattle.net_edge.proofs.Emptying.{PutsAll, put_one}
 use Rattle.net_edge.proofs.Runs.{play_turn}
 use Rattle.net_edge.proofs.Standing.{connected_sent, stood_at}
 
@@ -55,11 +56,8 @@ plays_none s None (Some calls) lists = absurd lists
 plays_none s (Some before) (Some calls) lists = ([], record { told = lists; steps = tt; now_is = refl })
 
 -- what is put of both logins
-abbrev pub grp_put : State → State
-grp_put w = put_at GrpClient (length (waits_at GrpClient w)) w
-
 abbrev both_put : State → State
-both_put w = put_at SpinClient (length (waits_at SpinClient (grp_put w))) (grp_put w)
+both_put w = put_one SpinClient (put_one GrpClient w)
 
 abbrev pub logged_in : Setting → Scene
 logged_in s = all_put_at SpinClient (all_put_at GrpClient (first_scene s))
@@ -96,16 +94,14 @@ module _ {V : Type 0} (is : V → VenueState → Type 0) (s : Setting) (few : s.
       uncalled place = grind arith
 
   -- the net was set up, and both logins were put
-  pub logs_in : (c0 c1 c2 c3 : Option (List Call)) (one two three : Stage V) → ListsCall c0 c1 (Begin Done) → Becomes is one two grp_put → Becomes is two three (λ w. put_at SpinClient (length (waits_at SpinClient w)) w)
-      → ((base : List Call) (now : Scene) (w : State) → Holds is one w → waits_at GrpClient w ≡ waits_at GrpClient now.world → Plays s base c1 now → Plays s base c2 (all_put_at GrpClient now))
-      → ((base : List Call) (now : Scene) (w : State) → Holds is two w → waits_at SpinClient w ≡ waits_at SpinClient now.world → Plays s base c2 now → Plays s base c3 (all_put_at SpinClient now))
+  pub logs_in : (c0 c1 c2 c3 : Option (List Call)) (one two three : Stage V) → ListsCall c0 c1 (Begin Done) → Becomes is one two (put_one GrpClient) → Becomes is two three (put_one SpinClient) → PutsAll is GrpClient c1 c2 one → PutsAll is SpinClient c2 c3 two
       → Holds is one connected → one.ended ≡ no_ends → (now : Scene) × TurnBegins is s (calls_before c0) c3 three 1 now
   logs_in c0 c1 c2 c3 one two three lists grp spin grp_plays spin_plays holds ended =
       let first : Plays s (calls_before c0) c1 (first_scene s) = plays_none s c0 c1 lists in
-      let second = grp_plays (calls_before c0) (first_scene s) connected holds (sym ((publishes s 1 connected).waits GrpClient)) first in
+      let second = grp_plays s (calls_before c0) (first_scene s) connected holds (sym ((publishes s 1 connected).waits GrpClient)) first in
       let there = grp.holds connected holds in
-      let third = spin_plays (calls_before c0) (all_put_at GrpClient (first_scene s)) (grp_put connected) there (sym ((publishes s 1 connected).waits SpinClient)) second in
-      (logged_in s, begins c0 c3 three third (spin.holds (grp_put connected) there) (spin.ended ∙ grp.ended ∙ ended))
+      let third = spin_plays s (calls_before c0) (all_put_at GrpClient (first_scene s)) (put_one GrpClient connected) there (sym ((publishes s 1 connected).waits SpinClient)) second in
+      (logged_in s, begins c0 c3 three third (spin.holds (put_one GrpClient connected) there) (spin.ended ∙ grp.ended ∙ ended))
 
   -- ---- Another turn
   pub turn_again : (base : List Call) (calls : Option (List Call)) (stage : Stage V) (turn next : ℕ) → next ≡ turn + 1 → (e : TurnEnds is s base calls stage turn) → MayGoOn s e.now → TurnBegins is s base calls stage next (next_turn s e.now)

@@ -10,15 +10,16 @@ use Rattle.pitch_io.specs.declared.net.LinkEnd.TheVariants.{GrpClient, GrpServer
 use Rattle.pitch_io.specs.Nets.{Call}
 use Rattle.venue_end.specs.Came.{VenueState}
 use Rattle.world_model.specs.State.{State}
-use Rattle.net_edge.specs.Acting.{all_tick, is_group_open, put_at, sent_on}
+use Rattle.net_edge.specs.Acting.{all_tick, is_group_open, sent_on}
 use Rattle.net_edge.specs.Due.{Setting, beat, beats, copies, due, is_tenth, ticks}
 use Rattle.net_edge.specs.Scene.{Scene, line_in, waits_at}
 use Rattle.net_edge.specs.declared.stage.Stage.{Stage}
 use Rattle.net_edge.specs.declared.turn.Place.{Place}
 use Rattle.net_edge.specs.declared.turn.Place.TheVariants.{Line as TheLine, End as TheEnd}
 use Rattle.net_edge.specs.layers.Playing.{Asks, AsksAll, DemoAt, IsPlaceOver, IsSentTo, IsUncalled, NothingWaits, TurnEnds, TurnGoes, after_beat, after_due_beat, answers_of}
+use Rattle.net_edge.proofs.Emptying.{put_one}
 use Rattle.net_edge.proofs.Keeping.{Keeps, keeps_then, put_keeps}
-use Rattle.net_edge.proofs.Standing.{tick_is}
+use Rattle.net_edge.proofs.Standing.{tick_keeps}
 use Rattle.net_edge.proofs.Waits.{others_wait, waits_left}
 
 -- ---- What a turn adds
@@ -32,9 +33,6 @@ ticks_more (suc t) some = let e : suc t - 1 ≡ t = omega arith in ap (λ (k : �
 
 -- ---- All that waits is put
 module _ (w : State) where
-  abbrev put_one : LinkEnd → State → State
-  put_one at v = put_at at (length (waits_at at v)) v
-
   abbrev w1 : State
   w1 = put_one GrpServer w
 
@@ -60,9 +58,8 @@ module _ (w : State) where
   none_waits SpinClient = none_left SpinClient w3
 
   put_keeps_all : Keeps w all_put_in
-  put_keeps_all = keeps_then w w1 all_put_in (put_keeps GrpServer (length (waits_at GrpServer w)) w)
-      (keeps_then w1 w2 all_put_in (put_keeps SpinServer (length (waits_at SpinServer w1)) w1)
-      (keeps_then w2 w3 all_put_in (put_keeps GrpClient (length (waits_at GrpClient w2)) w2) (put_keeps SpinClient (length (waits_at SpinClient w3)) w3)))
+  put_keeps_all = keeps_then (put_keeps GrpServer (length (waits_at GrpServer w)) w) (keeps_then (put_keeps SpinServer (length (waits_at SpinServer w1)) w1)
+      (keeps_then (put_keeps GrpClient (length (waits_at GrpClient w2)) w2) (put_keeps SpinClient (length (waits_at SpinClient w3)) w3)))
 
 -- ---- What a turn's first part sent
 -- the copies of a turn's message were sent on both lines
@@ -84,7 +81,7 @@ module _ (s : Setting) (now : Scene) (some : 1 ≤ now.turn) (sent : IsSentTo s 
       by true tenth = record {
         on_a = ap (λ (bs : List (List ℕ)). (now.a.sent ++ copies s A now.turn) ++ bs) (sym (ap (λ (b : Bool). cond b (beat s now.turn ∷ []) []) tenth)) ∙ line_due A now.a.sent sent.on_a;
         on_b = ap (λ (bs : List (List ℕ)). (now.b.sent ++ copies s B now.turn) ++ bs) (sym (ap (λ (b : Bool). cond b (beat s now.turn ∷ []) []) tenth)) ∙ line_due B now.b.sent sent.on_b;
-        ticked = (put_keeps_all (all_tick now.world)).seconds ∙ (tick_is now.world).seconds ∙ ap (λ (k : ℕ). k + 1) sent.ticked
+        ticked = (put_keeps_all (all_tick now.world)).seconds ∙ (tick_keeps now.world).seconds ∙ ap (λ (k : ℕ). k + 1) sent.ticked
             ∙ sym (ticks_more now.turn some ∙ ap (λ (b : Bool). cond b (ticks (now.turn - 1) + 1) (ticks (now.turn - 1))) tenth);
       }
       by false other = record {

@@ -1,9 +1,8 @@
 -- A venue's end that stands for a list of all that came to it.
-use Rattle.std.proofs.Common.{◌≡◌, [], ◌∷◌, ◌++◌, replicate, refl, ap, ◌∙◌, subst}
+use Rattle.std.proofs.Common.{[], ◌∷◌, ◌++◌, replicate, refl, ap, ◌∙◌}
 use Rattle.venue_end.specs.Came.{VenueCame, VenueState, SpinPumped, nothing_came, venue_after, venue_step}
 use Rattle.venue_end.specs.Sessions.{session_of}
 use Rattle.venue_end.specs.Stands.{Comes, OfVenue, VenueStands}
-use Rattle.venue_end.specs.declared.setup.VenueSetup.{VenueSetup}
 use Rattle.venue_end.specs.declared.venue.VenueEnd.{VenueEnd}
 use Rattle.world_model.specs.Ends.{default_limits, the_session}
 use Rattle.world_model.specs.State.{State}
@@ -13,8 +12,8 @@ use Rattle.world_model.proofs.Sessions.{pumped_venue}
 use Rattle.net_edge.specs.Due.{demo_unit}
 use Rattle.net_edge.specs.layers.Ends.{HasCome, IsPlain, demo_venue}
 
-pub plain_first : (e : VenueEnd) (s : VenueSetup) → s ≡ demo_venue → VenueStands s e [] → IsPlain e nothing_came
-plain_first e s is stands = record { came = []; now_is = refl; stands = subst (λ (v : VenueSetup). VenueStands v e []) is stands }
+pub plain_first : (e : VenueEnd) → VenueStands demo_venue e [] → IsPlain e nothing_came
+plain_first e stands = record { came = []; now_is = refl; stands = stands }
 
 pub plain_comes : (old new : VenueEnd) (came : VenueCame) → Comes old new came → HasCome IsPlain old new came
 plain_comes old new came comes = λ now h. record {

@@ -176,6 +176,7 @@ fn play_in<N: Net, V: Venue>(
 }
 
 // A demo at this end of the venue, to which nothing came.
+#[tactic(auto, using(crate::proofs::Ending::demo_unbegun))]
 fn demo_at<N: Net, V: Venue>(
     alloc: Global,
     net: &mut N,
@@ -240,6 +241,7 @@ fn demo_of<J: Naming, R: FixedRun, W: Wait, N: Net>(
 }
 
 // Opens a pair with two servers, whose run fixes no messages.
+#[tactic(auto, using(crate::proofs::Ending::demo_unbegun))]
 fn demo_opened<R: FixedRun, W: Wait, N: Net>(
     rt: &W,
     alloc: Global,

@@ -209,7 +209,7 @@ impl<V: Venue> Stage<V> {
         ensures becomes { OnOk result (Becomes V.is self.old self.new
             (server_takes session (came taken into.now) taken goes_on)) }
         ensures replays { OnOk result ((w : State) → Holds V.is self.old w
-            → Replays w (server_takes session (came taken into.now) taken goes_on)
+            → Replays w (server_takes session (came taken into.now) taken goes_on w)
             (bytes_in gap_line.old.items) (bytes_in gap_line.new.items)) }
     {
         if let NetTaken::Got(count) = taken {
@@ -273,7 +273,7 @@ impl<V: Venue> Stage<V> {
         ensures ended { OnOk result (self.new.ended
             ≡ (if got_end taken then and_end at self.old.ended else self.old.ended)) }
         ensures replays { IfOk result (λ list. (w : State) → Holds V.is self.old w
-            → Replays w (takes at (came taken into.now) taken goes_on) [] (bytes_in list.items)) }
+            → Replays w (takes at (came taken into.now) taken goes_on w) [] (bytes_in list.items)) }
     {
         let session = session_at(at);
         self.note_end(at, taken);

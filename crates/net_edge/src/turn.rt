@@ -1,21 +1,20 @@
 //! A turn: what the two ends do over a net.
 
 ghost use Rattle.std.specs.Prelude.{◌≡◌, ◌≤◌, ◌-◌, [], List, OnOk, IfErr, IfOk, Option, length};
-ghost use Rattle.std.specs.Prelude.{true, ◌&&◌, Bool};
+ghost use Rattle.std.specs.Prelude.{◌&&◌, Bool};
 ghost use Rattle.pitch_io.specs.Nets.{Call};
 ghost use Rattle.world_model.specs.State.{State};
 ghost use Rattle.net_edge.specs.Acting.{put_at};
 ghost use Rattle.net_edge.specs.Breaking.{Breaks};
 ghost use Rattle.unit_packets.specs.Packing.{bytes_in};
-ghost use Rattle.net_edge.specs.Due.{AreDuePieces, Setting, call_room, is_tenth};
-ghost use Rattle.net_edge.specs.Due.{new_datagrams, setting};
+ghost use Rattle.net_edge.specs.Due.{AreDuePieces, Setting, call_room, new_datagrams, setting};
 ghost use Rattle.net_edge.specs.Scene.{Scene, is_got, published, waits_at};
 ghost use Rattle.net_edge.specs.declared.turn.Place.TheVariants.{Line as TheLine, End as TheEnd};
 ghost use Rattle.net_edge.specs.layers.Ends.{Becomes, Holds};
 ghost use Rattle.net_edge.specs.layers.Playing.{AsksAll, AsksOnce, DemoAt, IsAllSent, MayAsk};
 ghost use Rattle.net_edge.specs.layers.Playing.{NetCounts, Plays, StageAt, TurnBegins, TurnEnds};
-ghost use Rattle.net_edge.specs.layers.Playing.{TurnGoes, after_beat, after_due_beat, all_put};
-ghost use Rattle.net_edge.specs.layers.Playing.{all_put_at, answers_of, is_place_done};
+ghost use Rattle.net_edge.specs.layers.Playing.{TurnGoes, after_due_beat, all_put, all_put_at};
+ghost use Rattle.net_edge.specs.layers.Playing.{answers_of, is_place_done};
 
 use crate::error::DemoError;
 use crate::putting::{put_whole, send, send_all, send_unless};
@@ -87,28 +86,7 @@ impl<V: Venue> Stage<V> {
 
     // ---- What the venue does in a turn
 
-    // The turn's heartbeat is sent, and a second passes.
-    fn beat<N: Net>(&mut self, net: &mut N) -> Result<(), DemoError>
-        ensures beaten { OnOk result ((s : Setting) (base : List Call) (now : Scene)
-            → DemoAt V.is s base (N.calls net.old) self.old now → is_tenth now.turn ≡ true
-            → DemoAt V.is s base (N.calls net.new) self.new (after_beat s now)) }
-        ensures broke { IfErr result (λ error. (s : Setting) (base : List Call) (now : Scene)
-            → DemoAt V.is s base (N.calls net.old) self.old now → is_tenth now.turn ≡ true
-            → Breaks s base (N.calls net.new) error) }
-        ensures faults { NetCounts result (N.faults net.old) (N.faults net.new) }
-    {
-        let heartbeat = self.heartbeat();
-        send(net, Line::A, &heartbeat)?;
-        // Not by `send`: this call is the run's step with which all ends tick.
-        match net.send(Line::B, &heartbeat) {
-            NetDone::Done => {}
-            NetDone::Failed => return Err(DemoError::NetFault),
-        }
-        self.tick()?;
-        self.put_all(net)
-    }
-
-    // Does what `beat` does, in every tenth turn.
+    // In every tenth turn its heartbeat is sent, and a second passes.
     fn beat_if_tenth<N: Net>(&mut self, net: &mut N, turn: u32) -> Result<(), DemoError>
         requires { 1 ≤ turn }
         ensures beaten { OnOk result ((s : Setting) (base : List Call) (now : Scene)
@@ -122,7 +100,15 @@ impl<V: Venue> Stage<V> {
         if turn % 10 != 0 {
             return Ok(());
         }
-        self.beat(net)
+        let heartbeat = self.heartbeat();
+        send(net, Line::A, &heartbeat)?;
+        // Not by `send`: this call is the run's step with which all ends tick.
+        match net.send(Line::B, &heartbeat) {
+            NetDone::Done => {}
+            NetDone::Failed => return Err(DemoError::NetFault),
+        }
+        self.tick()?;
+        self.put_all(net)
     }
 
     // The next command of the plan is accepted, until all were. Answers the datagrams of its
@@ -139,10 +125,8 @@ impl<V: Venue> Stage<V> {
             (Becomes V.is self.old self.new (published (setting number count) turn)) }
         ensures datagrams { IfOk result (λ list. (w : State) → Holds V.is self.old w
             → IsAllSent (setting number count) (turn - 1) w
-            → bytes_in list.items ≡ new_datagrams (setting number count) turn) }
-        ensures pieces { IfOk result (λ list. (w : State) → Holds V.is self.old w
-            → IsAllSent (setting number count) (turn - 1) w
-            → AreDuePieces (setting number count) turn (bytes_in list.items)) }
+            → (bytes_in list.items ≡ new_datagrams (setting number count) turn)
+            × AreDuePieces (setting number count) turn (bytes_in list.items)) }
     {
         let mut datagrams = DatagramList::make(self.alloc);
         if turn > count {
@@ -194,7 +178,6 @@ impl<V: Venue> Stage<V> {
         ensures asked { IfOk result (λ answer. (s : Setting) (base : List Call) (now : Scene)
             → DemoAt V.is s base (N.calls net.old) self.old now → MayAsk (TheEnd at) more now
             → AsksOnce V.is s base (N.calls net.new) self.new (TheEnd at) answer now) }
-        ensures room { length into.new ≡ length into.old }
         ensures broke { IfErr result (λ error. (s : Setting) (base : List Call) (now : Scene)
             → DemoAt V.is s base (N.calls net.old) self.old now → MayAsk (TheEnd at) more now
             → Breaks s base (N.calls net.new) error) }
@@ -222,7 +205,6 @@ impl<V: Venue> Stage<V> {
             (s : Setting) (base : List Call) (now : Scene) (more : Bool)
             → DemoAt V.is s base (N.calls net.old) self.old now → MayAsk (TheLine line) more now
             → AsksOnce V.is s base (N.calls net.new) self.new (TheLine line) answer now) }
-        ensures room { length into.new ≡ length into.old }
         ensures broke { IfErr result (λ error.
             (s : Setting) (base : List Call) (now : Scene) (more : Bool)
             → DemoAt V.is s base (N.calls net.old) self.old now → MayAsk (TheLine line) more now
@@ -252,7 +234,6 @@ impl<V: Venue> Stage<V> {
         ensures asked { IfOk result (λ answer. (s : Setting) (base : List Call) (now : Scene)
             → DemoAt V.is s base (N.calls net.old) self.old now → MayAsk place more now
             → AsksOnce V.is s base (N.calls net.new) self.new place answer now) }
-        ensures room { length into.new ≡ length into.old }
         ensures broke { IfErr result (λ error. (s : Setting) (base : List Call) (now : Scene)
             → DemoAt V.is s base (N.calls net.old) self.old now → MayAsk place more now
             → Breaks s base (N.calls net.new) error) }
@@ -281,7 +262,6 @@ impl<V: Venue> Stage<V> {
         ensures asked { OnOk result ((s : Setting) (base : List Call) (now : Scene)
             → DemoAt V.is s base (N.calls net.old) self.old now → answers_of place now ≡ []
             → AsksAll V.is s base (N.calls net.new) self.new place now) }
-        ensures room { length into.new ≡ length into.old }
         ensures broke { IfErr result (λ error. (s : Setting) (base : List Call) (now : Scene)
             → DemoAt V.is s base (N.calls net.old) self.old now → answers_of place now ≡ []
             → Breaks s base (N.calls net.new) error) }
@@ -314,7 +294,6 @@ impl<V: Venue> Stage<V> {
         ensures over { OnOk result ((base : List Call) (now : Scene)
             → TurnBegins V.is (setting number count) base (N.calls net.old) self.old turn now
             → TurnEnds V.is (setting number count) base (N.calls net.new) self.new turn) }
-        ensures room { length into.new ≡ length into.old }
         ensures broke { IfErr result (λ error. (base : List Call) (now : Scene)
             → TurnBegins V.is (setting number count) base (N.calls net.old) self.old turn now
             → Breaks (setting number count) base (N.calls net.new) error) }
@@ -328,16 +307,9 @@ impl<V: Venue> Stage<V> {
     }
 }
 
-// Whether a call brought something.
-fn is_got(answer: NetTaken) -> bool
-    ensures { result ≡ is_got answer }
-{
-    matches!(answer, NetTaken::Got(_))
-}
-
 // Whether further calls come behind one with this answer, where more may come.
 fn goes_on(answer: NetTaken, more: bool) -> bool
     ensures { result ≡ (is_got answer && more) }
 {
-    is_got(answer) && more
+    matches!(answer, NetTaken::Got(_)) && more
 }

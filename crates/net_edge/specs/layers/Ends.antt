@@ -67,11 +67,10 @@ pub record Becomes {V : Type 0} (is : V → VenueState → Type 0) (old new : St
 
 -- as a world becomes another, these datagrams were appended, which are the ones that the proxy has
 -- for the gap line then and had not before
-pub record Replays (w : State) (becomes : State → State) (lines lines' : List (List ℕ)) :
-    Type 0 where
+pub record Replays (w v : State) (lines lines' : List (List ℕ)) : Type 0 where
   pub more : List (List ℕ)
   pub hands : HandsOut w.venue lines lines' more
-  pub replayed : (becomes w).replayed ≡ w.replayed ++ more
+  pub replayed : v.replayed ≡ w.replayed ++ more
 
 -- ---- Which ends got End
 abbrev pub no_ends : EndSet

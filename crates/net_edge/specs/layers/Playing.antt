@@ -1,5 +1,5 @@
 -- What the code knows of a run that is under way. No caller needs it.
-use Rattle.std.specs.Prelude.{◌≡◌, ◌≤◌, ◌-◌, ◌&&◌, ℕ, Bool, true, false, List, [], ◌∷◌, ◌++◌}
+use Rattle.std.specs.Prelude.{◌≡◌, ◌≤◌, ◌-◌, ◌&&◌, ℕ, Bool, true, false, List, [], ◌∷◌}
 use Rattle.std.specs.Prelude.{Option, None, Some, Result, OnOk, IfErr, length, if◌then◌else◌}
 use Rattle.pitch_io.specs.declared.line.Line.TheVariants.{A, B}
 use Rattle.pitch_io.specs.declared.net.LinkEnd.{LinkEnd}
@@ -10,6 +10,7 @@ use Rattle.pitch_io.specs.Causes.{Rose}
 use Rattle.pitch_io.specs.Nets.{Call, Begin}
 use Rattle.pitch_io.specs.declared.net.NetDone.TheVariants.{Done}
 use Rattle.net_edge.specs.Acting.{scene_of, is_group_open, end_puts, in_world, all_tick, sent_on}
+use Rattle.net_edge.specs.Breaking.{ListsAdded}
 use Rattle.net_edge.specs.Demo.{IsLast}
 use Rattle.net_edge.specs.Due.{Setting, beat, due, is_tenth, messages, ticks}
 use Rattle.net_edge.specs.Scene.{Scene, line_in, at_end, waits_at, is_done, is_got, published}
@@ -37,11 +38,6 @@ pub record NetCounts {T : Type 0} (result : Result T DemoError) (before after : 
   pub still : OnOk result (after ≡ before)
 
 -- ---- Calls
--- the net's calls, where it lists them: those of the run, and those before it
-abbrev pub ListsCalls : List Call → Option (List Call) → List Step → Type 0
-ListsCalls base None run = Unit {0}
-ListsCalls base (Some calls) run = calls ≡ calls_of run ++ base
-
 -- the calls before a run, of which the last is `begin`
 abbrev pub calls_before : Option (List Call) → List Call
 calls_before None = []
@@ -50,7 +46,7 @@ calls_before (Some calls) = Begin Done ∷ calls
 -- a run that leads to a scene
 pub record LeadsTo (s : Setting)
     (base : List Call) (calls : Option (List Call)) (now : Scene) (run : List Step) : Type 0 where
-  pub told : ListsCalls base calls run
+  pub told : ListsAdded base calls (calls_of run)
   pub steps : AreSteps s run
   pub now_is : scene_of s run ≡ now
 
@@ -72,7 +68,7 @@ all_put now = all_put_at SpinClient
 abbrev pub NothingWaits : State → Type 0
 NothingWaits w = (at : LinkEnd) → waits_at at w ≡ []
 
--- ---- A stage
+-- ---- Parts of a scene
 -- which ends got End
 abbrev pub ended_in : Scene → EndSet
 ended_in now = record {
@@ -82,22 +78,7 @@ ended_in now = record {
   spin_server = now.spin_server.ended;
 }
 
--- a stage and the net's calls are those of a scene
-pub record StageAt {V : Type 0} (is : V → VenueState → Type 0) (s : Setting) (base : List Call)
-    (calls : Option (List Call)) (stage : Stage V) (now : Scene) : Type 0 where
-  pub few : s.count ≤ 1000
-  pub holds : Holds is stage now.world
-  pub ended : stage.ended ≡ ended_in now
-  pub plays : Plays s base calls now
-
--- and nothing waits, and all that the proxy had for the gap line was sent
-pub record DemoAt {V : Type 0} (is : V → VenueState → Type 0) (s : Setting) (base : List Call)
-    (calls : Option (List Call)) (stage : Stage V) (now : Scene) : Type 0 where
-  pub at : StageAt is s base calls stage now
-  pub put : NothingWaits now.world
-  pub replayed : now.gap.sent ≡ now.world.replayed
-
--- ---- Groups of calls
+-- the answers of a turn's group of calls
 abbrev pub answers_of : Place → Scene → List NetTaken
 answers_of (TheLine line) now = (line_in line now).answers
 answers_of (TheEnd at) now = (at_end at now).answers
@@ -120,23 +101,6 @@ pub record Asks (place : Place) (now after : Scene) : Type 0 where
   pub ticked : after.world.venue.spent.now ≡ now.world.venue.spent.now
   pub done : (at : LinkEnd) → is_done at now ≡ true → is_done at after ≡ true
   pub others : (other : Place) → (other ≡ place → ⊥) → answers_of other after ≡ answers_of other now
-
--- one call more was made there
-pub record AsksOnce {V : Type 0} (is : V → VenueState → Type 0) (s : Setting) (base : List Call)
-    (calls : Option (List Call)) (stage : Stage V) (place : Place) (answer : NetTaken)
-    (now : Scene) : Type 0 where
-  pub after : Scene
-  pub at : DemoAt is s base calls stage after
-  pub asks : Asks place now after
-  pub answers_are : answers_of place after ≡ answer ∷ answers_of place now
-
--- all calls of the turn were
-pub record AsksAll {V : Type 0} (is : V → VenueState → Type 0) (s : Setting) (base : List Call)
-    (calls : Option (List Call)) (stage : Stage V) (place : Place) (now : Scene) : Type 0 where
-  pub after : Scene
-  pub at : DemoAt is s base calls stage after
-  pub asks : Asks place now after
-  pub over : IsPlaceOver place after
 
 -- one call more may come there, and others behind it where it gets something and more may come
 pub record MayAsk (place : Place) (more : Bool) (now : Scene) : Type 0 where
@@ -171,43 +135,69 @@ pub record IsAllSent (s : Setting) (turn : ℕ) (w : State) : Type 0 where
   pub accepted : w.venue.messages ≡ messages s turn
   pub all_sent : w.venue.sent ≡ length (messages s turn)
 
--- a turn begins, of which the venue has not done its part: the stage holds the world before that
-pub record TurnBegins {V : Type 0} (is : V → VenueState → Type 0) (s : Setting) (base : List Call)
-    (calls : Option (List Call)) (stage : Stage V) (turn : ℕ) (now : Scene) : Type 0 where
-  pub few : s.count ≤ 1000
-  pub turn_is : now.turn ≡ turn
-  pub world : State
-  pub world_is : now.world ≡ published s turn world
-  pub holds : Holds is stage world
-  pub ended : stage.ended ≡ ended_in now
-  pub plays : Plays s base calls now
-  pub put : NothingWaits now.world
-  pub replayed : now.gap.sent ≡ now.world.replayed
-  pub all_sent : IsAllSent s (turn - 1) world
-  pub sent : IsSentTo s (turn - 1) now
-  pub uncalled : IsUncalled now
+-- ---- A stage and the net's calls, of which those before a run are the base
+module _ {V : Type 0} (is : V → VenueState → Type 0) (s : Setting) (base : List Call)
+    (calls : Option (List Call)) (stage : Stage V) where
+  -- a stage and the net's calls are those of a scene
+  pub record StageAt (now : Scene) : Type 0 where
+    pub few : s.count ≤ 1000
+    pub holds : Holds is stage now.world
+    pub ended : stage.ended ≡ ended_in now
+    pub plays : Plays s base calls now
 
--- the venue has done its part
-pub record TurnGoes {V : Type 0} (is : V → VenueState → Type 0) (s : Setting) (base : List Call)
-    (calls : Option (List Call)) (stage : Stage V) (turn : ℕ) : Type 0 where
-  pub now : Scene
-  pub at : DemoAt is s base calls stage now
-  pub turn_is : now.turn ≡ turn
-  pub sent : IsSentTo s turn now
-  pub uncalled : IsUncalled now
+  -- and nothing waits, and all that the proxy had for the gap line was sent
+  pub record DemoAt (now : Scene) : Type 0 where
+    pub at : StageAt now
+    pub put : NothingWaits now.world
+    pub replayed : now.gap.sent ≡ now.world.replayed
 
--- it is over
-pub record TurnEnds {V : Type 0} (is : V → VenueState → Type 0) (s : Setting) (base : List Call)
-    (calls : Option (List Call)) (stage : Stage V) (turn : ℕ) : Type 0 where
-  pub now : Scene
-  pub at : DemoAt is s base calls stage now
-  pub turn_is : now.turn ≡ turn
-  pub over : IsOver s now
+  -- one call more was made at a place
+  pub record AsksOnce (place : Place) (answer : NetTaken) (now : Scene) : Type 0 where
+    pub after : Scene
+    pub at : DemoAt after
+    pub asks : Asks place now after
+    pub answers_are : answers_of place after ≡ answer ∷ answers_of place now
 
--- so is the run
-pub record EndsRun {V : Type 0} (is : V → VenueState → Type 0) (s : Setting) (base : List Call)
-    (calls : Option (List Call)) (stage : Stage V) : Type 0 where
-  pub now : Scene
-  pub at : DemoAt is s base calls stage now
-  pub over : IsOver s now
-  pub last : IsLast s now
+  -- all calls of the turn there were
+  pub record AsksAll (place : Place) (now : Scene) : Type 0 where
+    pub after : Scene
+    pub at : DemoAt after
+    pub asks : Asks place now after
+    pub over : IsPlaceOver place after
+
+  -- a turn begins, of which the venue has not done its part: the stage holds the world before that
+  pub record TurnBegins (turn : ℕ) (now : Scene) : Type 0 where
+    pub few : s.count ≤ 1000
+    pub turn_is : now.turn ≡ turn
+    pub world : State
+    pub world_is : now.world ≡ published s turn world
+    pub holds : Holds is stage world
+    pub ended : stage.ended ≡ ended_in now
+    pub plays : Plays s base calls now
+    pub put : NothingWaits now.world
+    pub replayed : now.gap.sent ≡ now.world.replayed
+    pub all_sent : IsAllSent s (turn - 1) world
+    pub sent : IsSentTo s (turn - 1) now
+    pub uncalled : IsUncalled now
+
+  -- the venue has done its part
+  pub record TurnGoes (turn : ℕ) : Type 0 where
+    pub now : Scene
+    pub at : DemoAt now
+    pub turn_is : now.turn ≡ turn
+    pub sent : IsSentTo s turn now
+    pub uncalled : IsUncalled now
+
+  -- the turn is over
+  pub record TurnEnds (turn : ℕ) : Type 0 where
+    pub now : Scene
+    pub at : DemoAt now
+    pub turn_is : now.turn ≡ turn
+    pub over : IsOver s now
+
+  -- so is the run
+  pub record EndsRun : Type 0 where
+    pub now : Scene
+    pub at : DemoAt now
+    pub over : IsOver s now
+    pub last : IsLast s now

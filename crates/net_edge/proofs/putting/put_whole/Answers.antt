@@ -1,9 +1,8 @@
-use Rattle.std.proofs.Common.{◌≡◌, ◌-◌, ℕ, List, length, take, drop, refl, ap, sym, ◌∙◌, subst, arith}
+use Rattle.std.proofs.Common.{◌≡◌, ◌-◌, ℕ, List, length, take, drop, refl, ap, ◌∙◌, arith}
 use Rattle.std.proofs.lemmas.List.{take_rest, take_all, length-drop}
 use Rattle.pitch_io.specs.Nets.{Put}
 use Rattle.pitch_io.specs.declared.sink.Put.TheVariants as puts
 use Rattle.net_edge.specs.Acting.{end_puts}
-use Rattle.net_edge.specs.layers.Playing.{Plays}
 use Rattle.net_edge.proofs.Runs.{play_call, put_may, put_none, put_next}
 use Rattle.net_edge.proofs.Breaking.{breaks_by}
 use Rattle.net_edge.proofs.putting.put_whole.Goals as goal
@@ -11,8 +10,7 @@ use Rattle.net_edge.proofs.putting.put_whole.Goals as goal
 pub puts-init : goal.puts-init
 puts-init g c = record {
   within = omega arith;
-  plays = λ s base now waits plays. subst (Plays s base (g.N.Net.calls c.args.net.now)) (sym (put_none c.args.at now)) plays;
-  later = omega arith;
+  plays = λ s base now waits plays. rw put_none plays;
   still = refl;
 }
 
@@ -25,15 +23,12 @@ puts-preserved g c =
     record {
       within = omega (arith, c.in-Wrote.ensures.count.1, ap (λ (x : List ℕ). length x) whole, length-drop c.puts.done bytes, c.puts.invariant.within);
       plays = λ s base now waits plays.
-          subst (Plays s base (g.N.Net.calls c.put.new.self)) (put_next c.args.at bytes piece c.puts.done count now whole)
-          (play_call s base _ _ (end_puts c.args.at (take c.puts.done bytes) now) (Put c.args.at piece (puts.Wrote count)) c.in-Wrote.ensures.calls (λ f. f) (put_may c.args.at bytes piece c.puts.done now waits c.puts.invariant.within whole) (c.puts.invariant.plays s base now waits plays));
-      later = omega (arith, c.puts.invariant.later, c.put.ensures.cause.later);
+          rw (put_next c.args.at bytes piece c.puts.done count now whole) at (play_call s base _ _ (end_puts c.args.at (take c.puts.done bytes) now) (Put c.args.at piece (puts.Wrote count)) c.in-Wrote.ensures.calls (λ f. f) (put_may c.args.at bytes piece c.puts.done now waits c.puts.invariant.within whole) (c.puts.invariant.plays s base now waits plays));
       still = c.in-Wrote.ensures.still (λ f. f) ∙ c.puts.invariant.still;
     }
 
 pub returns-clause-put : goal.returns-clause-put
-returns-clause-put g c = λ s base now waits plays.
-    subst (λ (bytes : List ℕ). Plays s base (g.N.Net.calls c.puts.net) (end_puts c.args.at bytes now)) (take_all c.puts.done c.args.bytes.now (omega arith)) (c.puts.invariant.plays s base now waits plays)
+returns-clause-put g c = λ s base now waits plays. rw (take_all c.puts.done c.args.bytes.now (omega arith)) at (c.puts.invariant.plays s base now waits plays)
 
 pub returns-in-Failed-clause-broke : goal.returns-in-Failed-clause-broke
 returns-in-Failed-clause-broke g c =

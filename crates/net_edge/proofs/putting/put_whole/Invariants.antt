@@ -10,7 +10,6 @@ abbrev pub invariant-puts : goal.invariant-puts
 invariant-puts g l = record {
   within : l.done ≤ length l.bytes;
   plays : (s : Setting) (base : List Call) (now : Scene) → l.bytes ≡ waits_at l.at now.world → Plays s base (g.N.Net.calls l.fn.net) now → Plays s base (g.N.Net.calls l.net) (end_puts l.at (take l.done l.bytes) now);
-  later : g.N.Net.faults l.fn.net ≤ g.N.Net.faults l.net;
   still : g.N.Net.faults l.net ≡ g.N.Net.faults l.fn.net;
 }
 

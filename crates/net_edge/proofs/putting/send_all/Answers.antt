@@ -1,20 +1,17 @@
-use Rattle.std.proofs.Common.{rules, ℕ, List, ◌∷◌, [], length, take, refl, ap, sym, ◌∙◌, subst, arith}
+use Rattle.std.proofs.Common.{rules, ◌∷◌, [], length, take, refl, ◌∙◌, arith}
 use Rattle.std.proofs.lemmas.List.{take_all}
 use Rattle.std.proofs.lemmas.Option.{slice_get_read}
 use Rattle.unit_packets.proofs.Packs.{bytes_more, bytes_at}
 use Rattle.pitch_model.proofs.Results.{at_exit}
-use Rattle.pitch_messages.specs.Room.{Roomy}
 use Rattle.unit_packets.specs.Packing.{bytes_in}
 use Rattle.net_edge.specs.Acting.{sent_on}
 use Rattle.net_edge.specs.Due.{IsDuePiece}
-use Rattle.net_edge.specs.layers.Playing.{Plays}
 use Rattle.net_edge.proofs.Runs.{sent_none, sent_both, sent_in_turn}
 use Rattle.net_edge.proofs.putting.send_all.Goals as goal
 
 pub sends-init : goal.sends-init
 sends-init g c = record {
-  plays = λ s base now plays pieces. subst (Plays s base (g.N.Net.calls c.args.net.now)) (sym (sent_none c.args.line now)) plays;
-  later = omega arith;
+  plays = λ s base now plays pieces. rw sent_none plays;
   still = refl;
 }
 
@@ -27,19 +24,14 @@ sends-preserved g c =
     record {
       plays = λ s base now plays pieces.
           let sent = bytes_in (take i all) in
-          let piece = subst (λ t. IsDuePiece s t c.bytes.result.now) (sent_in_turn c.args.line sent now) (subst (IsDuePiece s now.turn) (sym c.bytes.ensures) (bytes_at (IsDuePiece s now.turn) all i item at pieces)) in
-          subst (Plays s base (g.N.Net.calls c.send.new.net))
-          (ap (λ (x : List _). sent_on c.args.line (x ∷ []) (sent_on c.args.line sent now)) c.bytes.ensures
-          ∙ sent_both c.args.line sent (item.items ∷ []) now
-          ∙ ap (λ (xs : List (List _)). sent_on c.args.line xs now) (sym (bytes_more all i item at)))
+          let piece : IsDuePiece s (sent_on c.args.line sent now).turn c.bytes.result.now = rw (← sent_in_turn c.args.line sent now, c.bytes.ensures) (bytes_at (IsDuePiece s now.turn) all i item at pieces) in
+          rw (bytes_more all i item at, ← sent_both c.args.line sent (item.items ∷ []) now, ← c.bytes.ensures)
           (c.in_ok-send.ensures.sent s base (sent_on c.args.line sent now) (c.sends.invariant.plays s base now plays pieces) piece);
-      later = omega (arith, c.sends.invariant.later, c.send.ensures.faults.later);
       still = c.in_ok-send.ensures.faults.still ∙ c.sends.invariant.still;
     }
 
 pub returns-clause-sent : goal.returns-clause-sent
-returns-clause-sent g c = λ s base now plays pieces.
-    subst (λ (ls : List (Roomy ℕ)). Plays s base (g.N.Net.calls c.sends.net) (sent_on c.args.line (bytes_in ls) now)) (take_all c.sends.datagram-index c.args.datagrams.now (omega arith)) (c.sends.invariant.plays s base now plays pieces)
+returns-clause-sent g c = λ s base now plays pieces. rw (take_all c.sends.datagram-index c.args.datagrams.now (omega arith)) at (c.sends.invariant.plays s base now plays pieces)
 
 pub returns-in_err-send-clause-broke : goal.returns-in_err-send-clause-broke
 returns-in_err-send-clause-broke g c =
@@ -50,5 +42,5 @@ returns-in_err-send-clause-broke g c =
     at_exit _ c.from_residual.result _ c.from_residual.ensures
     (λ s base now plays pieces.
     let sent = bytes_in (take i all) in
-    let piece = subst (λ t. IsDuePiece s t c.bytes.result.now) (sent_in_turn c.args.line sent now) (subst (IsDuePiece s now.turn) (sym c.bytes.ensures) (bytes_at (IsDuePiece s now.turn) all i item at pieces)) in
+    let piece : IsDuePiece s (sent_on c.args.line sent now).turn c.bytes.result.now = rw (← sent_in_turn c.args.line sent now, c.bytes.ensures) (bytes_at (IsDuePiece s now.turn) all i item at pieces) in
     c.in_err-send.ensures.broke s base (sent_on c.args.line sent now) (c.sends.invariant.plays s base now plays pieces) piece)

@@ -10,8 +10,6 @@ pub turns-init : goal.turns-init
 turns-init g c = record {
   least = omega arith;
   most = omega arith;
-  room = c.turn.ensures.room;
-  later = c.turn.ensures.faults.later;
   still = c.in_ok-turn.ensures.faults.still;
   ran = λ base now begins. c.in_ok-turn.ensures.over base now begins;
 }
@@ -25,8 +23,6 @@ turns-preserved g c =
     record {
       least = omega arith;
       most = omega (arith, c.turns.invariant.most, ne);
-      room = c.turn-in-turns.ensures.room ∙ c.turns.invariant.room;
-      later = omega (arith, c.turns.invariant.later, c.turn-in-turns.ensures.faults.later);
       still = c.in_ok-turn-2.ensures.faults.still ∙ c.turns.invariant.still;
       ran = λ base now begins.
           let e = c.turns.invariant.ran base now begins in

@@ -1,4 +1,4 @@
-use Rattle.std.proofs.Common.{◌≡◌, ◌+◌, ◌-◌, ◌≤◌, List, length}
+use Rattle.std.proofs.Common.{◌≡◌, ◌+◌, ◌-◌, ◌≤◌, List}
 use Rattle.pitch_io.specs.Nets.{Call}
 use Rattle.net_edge.specs.Due.{setting}
 use Rattle.net_edge.specs.Scene.{Scene}
@@ -9,8 +9,6 @@ abbrev pub invariant-turns : goal.invariant-turns
 invariant-turns g l = record {
   least : 1 ≤ l.turn;
   most : l.turn ≤ l.count + 200;
-  room : length l.into ≡ length l.fn.into;
-  later : g.N.Net.faults l.fn.net ≤ g.N.Net.faults l.net;
   still : g.N.Net.faults l.net ≡ g.N.Net.faults l.fn.net;
   ran : (base : List Call) (now : Scene) → TurnBegins g.V.Venue.is (setting l.number l.count) base (g.N.Net.calls l.fn.net) l.fn.stage 1 now → TurnEnds g.V.Venue.is (setting l.number l.count) base (g.N.Net.calls l.net) l.stage l.turn;
 }

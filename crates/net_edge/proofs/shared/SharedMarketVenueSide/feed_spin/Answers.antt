@@ -1,19 +1,11 @@
-use Rattle.std.proofs.Common.{List, refl, sym, subst, false, ◌≡◌}
-use mathlib.Core.List.{IsPrefix}
-use Rattle.pitch_model.specs.Advertising.{Operation}
-use Rattle.shared_unit.specs.layers.Moments.{Writing}
+use Rattle.std.proofs.Common.{refl}
 use Rattle.shared_unit.specs.layers.Histories.{served_at}
-use Rattle.net_edge.specs.layers.Shared.{SharedHas}
 use Rattle.net_edge.proofs.Sharing.{spin_answers}
 use Rattle.net_edge.proofs.shared.SharedMarketVenueSide.feed_spin.Goals as goal
 
 pub returns-clause-fed : goal.returns-clause-fed
 returns-clause-fed g c = λ j es has stands.
-    let writer : Writing = c.self.inside.writer in
-    let before : List Operation = c.hear_told.new.self.history in
-    let after : List Operation = c.feed.new.lookup.history in
-    let begins : IsPrefix writer.history before = subst (λ (h : List Operation). IsPrefix h before) c.tell.ensures.told c.hear_told.ensures.that in
-    let covered : writer.cut_off ≡ false → IsPrefix after writer.history = subst (λ (w : Writing). w.cut_off ≡ false → IsPrefix after w.history) c.tell.ensures.same c.covers.ensures.begins in
-    spin_answers writer before after j es c.args.piece.now c.args.server.now c.feed.new.self c.args.said.now.items c.feed.new.reply.items
-    (subst (λ (w : Writing). SharedHas w j) (sym c.self.view_is) has) begins covered
+    let before = c.hear_told.new.self.history in
+    spin_answers c.self.inside.writer before c.feed.new.lookup.history j es c.args.piece.now c.args.server.now c.feed.new.self c.args.said.now.items c.feed.new.reply.items
+    (rw c.self.view_is has) (rw c.tell.ensures.told at c.hear_told.ensures.that) (rw c.tell.ensures.same at c.covers.ensures.begins)
     (c.in_ok-feed.ensures.fed es (served_at before) stands refl)

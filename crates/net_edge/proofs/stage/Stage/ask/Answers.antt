@@ -7,16 +7,12 @@ use Rattle.net_edge.proofs.stage.Stage.ask.Goals as goal
 
 pub calls-init : goal.calls-init
 calls-init g c = record {
-  room = refl;
-  later = omega arith;
   still = refl;
   asked = λ s base now at none. some_none g.V.Venue.is s base _ c.args.self.now c.args.place now at none;
 }
 
 pub calls-preserved : goal.calls-preserved
 calls-preserved g c = record {
-  room = c.ask_once.ensures.room ∙ c.calls.invariant.room;
-  later = omega (arith, c.calls.invariant.later, c.ask_once.ensures.faults.later);
   still = c.in_ok-ask_once.ensures.faults.still ∙ c.calls.invariant.still;
   asked = λ s base now at none.
       let so = c.calls.invariant.asked s base now at none in
@@ -29,20 +25,11 @@ returns-then-is_place_done-clause-asked g c = λ s base now at none.
     let so = c.calls.invariant.asked s base now at none in
     asks_over g.V.Venue.is s base _ c.calls.self c.args.place c.calls.index now so (λ opened. sym (c.is_place_done.ensures s base _ so.after so.at.at) ∙ c.if-is_place_done.true)
 
-pub returns-in-Quiet : goal.returns-in-Quiet
-returns-in-Quiet g c = record {
-  asked = λ s base now at none.
-      let so = c.calls.invariant.asked s base now at none in
-      let may = may_ask g.V.Venue.is s base _ c.calls.self c.args.place c.calls.index now so (omega arith) (sym (c.is_place_done.ensures s base _ so.after so.at.at) ∙ c.if-is_place_done.false) in
-      asks_last g.V.Venue.is s base _ _ c.calls.self c.ask_once.new.self c.args.place c.in_ok-ask_once.field-0 c.calls.index now so (c.in_ok-ask_once.ensures.asked s base so.after so.at may) (nothing c.in_ok-ask_once.field-0 c.in-Quiet.is);
-  room = c.ask_once.ensures.room ∙ c.calls.invariant.room;
-  broke = tt;
-  faults = record {
-    fault = tt;
-    later = omega (arith, c.calls.invariant.later, c.ask_once.ensures.faults.later);
-    still = c.in_ok-ask_once.ensures.faults.still ∙ c.calls.invariant.still;
-  };
-}
+pub returns-in-Quiet-clause-asked : goal.returns-in-Quiet-clause-asked
+returns-in-Quiet-clause-asked g c = λ s base now at none.
+    let so = c.calls.invariant.asked s base now at none in
+    let may = may_ask g.V.Venue.is s base _ c.calls.self c.args.place c.calls.index now so (omega arith) (sym (c.is_place_done.ensures s base _ so.after so.at.at) ∙ c.if-is_place_done.false) in
+    asks_last g.V.Venue.is s base _ _ c.calls.self c.ask_once.new.self c.args.place c.in_ok-ask_once.field-0 c.calls.index now so (c.in_ok-ask_once.ensures.asked s base so.after so.at may) (nothing c.in_ok-ask_once.field-0 c.in-Quiet.is)
 
 pub returns-clause-asked : goal.returns-clause-asked
 returns-clause-asked g c = λ s base now at none. asks_full g.V.Venue.is s base _ c.calls.self c.args.place c.calls.index now (c.calls.invariant.asked s base now at none) (omega arith)

@@ -1,4 +1,4 @@
-use Rattle.std.proofs.Common.{◌≡◌, ◌≤◌, [], List, length}
+use Rattle.std.proofs.Common.{◌≡◌, [], List}
 use Rattle.pitch_io.specs.Nets.{Call}
 use Rattle.net_edge.specs.Due.{Setting}
 use Rattle.net_edge.specs.Scene.{Scene}
@@ -8,8 +8,6 @@ use Rattle.net_edge.proofs.stage.Stage.ask.Given as goal
 
 abbrev pub invariant-calls : goal.invariant-calls
 invariant-calls g l = record {
-  room : length l.into ≡ length l.fn.into;
-  later : g.N.Net.faults l.fn.net ≤ g.N.Net.faults l.net;
   still : g.N.Net.faults l.net ≡ g.N.Net.faults l.fn.net;
   asked : (s : Setting) (base : List Call) (now : Scene) → DemoAt g.V.Venue.is s base (g.N.Net.calls l.fn.net) l.fn.self now → answers_of l.place now ≡ []
       → AsksSome g.V.Venue.is s base (g.N.Net.calls l.net) l.self l.place l.index now;

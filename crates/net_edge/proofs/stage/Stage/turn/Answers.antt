@@ -1,4 +1,4 @@
-use Rattle.std.proofs.Common.{◌<◌, ◌∙◌, refl, arith}
+use Rattle.std.proofs.Common.{◌<◌, ◌∙◌, arith}
 use Rattle.pitch_model.proofs.Results.{at_exit}
 use Rattle.net_edge.specs.Due.{Setting, setting}
 use Rattle.net_edge.proofs.Turning.{asks_next, in_turn, next_uncalled, turn_ends}
@@ -6,16 +6,12 @@ use Rattle.net_edge.proofs.stage.Stage.turn.Goals as goal
 
 pub places-init : goal.places-init
 places-init g c = record {
-  room = refl;
-  later = c.open_turn.ensures.faults.later;
   still = c.in_ok-open_turn.ensures.faults.still;
   asked = λ base now b. in_turn g.V.Venue.is (setting c.args.number c.args.count) base _ c.open_turn.new.self c.args.turn (c.in_ok-open_turn.ensures.opened base now b);
 }
 
 pub places-preserved : goal.places-preserved
 places-preserved g c = record {
-  room = c.ask.ensures.room ∙ c.places.invariant.room;
-  later = omega (arith, c.places.invariant.later, c.ask.ensures.faults.later);
   still = c.in_ok-ask.ensures.faults.still ∙ c.places.invariant.still;
   asked = λ base now b.
       let s : Setting = setting c.args.number c.args.count in
