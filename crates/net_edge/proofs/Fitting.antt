@@ -16,7 +16,6 @@ use Rattle.unit_packets.specs.Packing.{datagram_size, fits_datagram, begun_datag
 use Rattle.unit_packets.proofs.Packs.{fits_of, one_fits}
 use Rattle.pitch_model.specs.History.{Raw}
 use Rattle.gap_store.specs.Look.{View, slice_of}
-use Rattle.session_ends.specs.Answering.{answers}
 use Rattle.grp_session.specs.Asking.{datagrams_of}
 use Rattle.venue_core.specs.Losses.{is_lost}
 use Rattle.pitch_text.specs.declared.verb.Session.TheVariants.{Grp, Spin}

@@ -49,7 +49,7 @@ module _ {V : Type 0} (is : V → VenueState → Type 0) where
   }
 
   pub venue_becomes : (e : Stage V) (venue : V) (new : VenueCame) → HasCome is e.venue venue new → Becomes is e (record e { venue = venue }) (venue_has demo_unit default_limits new)
-  venue_becomes e venue new comes = alone_becomes e venue (venue_has demo_unit default_limits new) (λ w. comes w.venue) (λ w. refl)
+  venue_becomes e venue new comes = alone_becomes e venue (venue_has demo_unit default_limits new) (λ w. comes.comes w.venue) (λ w. refl)
 
   pub client_stands : (e : Stage V) (w : State) → (h : Holds is e w) → SendingStands demo_client e.client h.came
   client_stands e w h = record { unit_is = h.client.unit_is; end_is = subst (EndIs demo_client e.client.end) h.came_is h.client.end_is }
@@ -115,8 +115,8 @@ module _ {V : Type 0} (is : V → VenueState → Type 0) where
     fed_becomes e venue comes = by session comes
       where
         by : (x : Session) → HasCome is e.venue venue (server_took x bytes) → Becomes is e (record e { venue = venue }) (server_answers x bytes (Got count))
-        by Grp comes = alone_becomes e venue (server_answers Grp bytes (Got count)) (λ w. comes w.venue) (λ w. refl)
-        by Spin comes = alone_becomes e venue (server_answers Spin bytes (Got count)) (λ w. comes w.venue) (λ w. refl)
+        by Grp comes = alone_becomes e venue (server_answers Grp bytes (Got count)) (λ w. comes.comes w.venue) (λ w. refl)
+        by Spin comes = alone_becomes e venue (server_answers Spin bytes (Got count)) (λ w. comes.comes w.venue) (λ w. refl)
 
   -- a running image is sent to its end
   whole_becomes : (e : Stage V) (venue : V) → ((w : State) → is e.venue w.venue → is venue (sent_whole demo_unit default_limits w).venue) → Becomes is e (record e { venue = venue }) (sent_whole demo_unit default_limits)

@@ -16,10 +16,8 @@ pub plain_first : (e : VenueEnd) → VenueStands demo_venue e [] → IsPlain e n
 plain_first e stands = record { came = []; now_is = refl; stands = stands }
 
 pub plain_comes : (old new : VenueEnd) (came : VenueCame) → Comes old new came → HasCome IsPlain old new came
-plain_comes old new came comes = λ now h. record {
-  came = came ∷ h.came;
-  now_is = ap (venue_step demo_venue came) h.now_is;
-  stands = comes demo_venue h.came h.stands;
+plain_comes old new came comes = record {
+  comes = λ now h. record { came = came ∷ h.came; now_is = ap (venue_step demo_venue came) h.now_is; stands = comes demo_venue h.came h.stands };
 }
 
 pub plain_whole : (old new : VenueEnd) → OfVenue old (λ s before. VenueStands s new (asked_out s before)) → (w : State) → IsPlain old w.venue → IsPlain new (sent_whole demo_unit default_limits w).venue

@@ -9,6 +9,7 @@ use unit_packets::DatagramList;
 use venue_end::VenueEnd;
 use world_model::venue;
 
+#[tactic(auto, using(crate::proofs::Venues::plain_comes))]
 impl Venue for VenueEnd {
     ghost is = { IsPlain };
 

@@ -157,6 +157,7 @@ fn play<N: Net, V: Venue>(
 }
 
 // The same, with room for what comes.
+#[tactic(auto, using(crate::proofs::Ending::demo_unbegun))]
 fn play_in<N: Net, V: Venue>(
     alloc: Global,
     net: &mut N,

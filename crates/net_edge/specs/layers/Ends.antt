@@ -29,9 +29,9 @@ demo_client = client_setup demo_unit default_limits
 
 -- ---- The venue's end, whatever it is made of
 -- whatever it stood for, this came
-abbrev pub HasCome : {V : Type 0} → (V → VenueState → Type 0) → V → V → VenueCame → Type 0
-HasCome is old new came =
-    (now : VenueState) → is old now → is new (venue_step demo_venue came now)
+pub record HasCome {V : Type 0} (is : V → VenueState → Type 0) (old new : V) (came : VenueCame) :
+    Type 0 where
+  pub comes : (now : VenueState) → is old now → is new (venue_step demo_venue came now)
 
 -- messages of a venue: raws, whose bytes are bytes, and no more than there are sequences
 pub record AreMessages (V : List Raw) : Type 0 where

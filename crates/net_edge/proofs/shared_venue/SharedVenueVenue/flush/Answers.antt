@@ -12,9 +12,11 @@ pack-requires g c =
     inr (inr (omega (arith, few, many)))
 
 pub returns-clause-comes : goal.returns-clause-comes
-returns-clause-comes g c = λ now is.
-    flush_comes c.args.self.now.market c.args.self.now.servers c.args.self.now.unsent.items c.args.self.now.next now is c.truncate.new.self.items c.in-Some.next c.truncate.ensures.items
-    (c.in-Some.ensures.1 ∙ ap (λ (n : ℕ). c.args.self.now.next + n) (c.in-Ok.ensures.1 ∙ c.len.ensures.length))
+returns-clause-comes g c = record {
+  comes = λ now is.
+      flush_comes c.args.self.now.market c.args.self.now.servers c.args.self.now.unsent.items c.args.self.now.next now is c.truncate.new.self.items c.in-Some.next c.truncate.ensures.items
+      (c.in-Some.ensures.1 ∙ ap (λ (n : ℕ). c.args.self.now.next + n) (c.in-Ok.ensures.1 ∙ c.len.ensures.length));
+}
 
 pub returns-clause-lines : goal.returns-clause-lines
 returns-clause-lines g c = λ now is.
