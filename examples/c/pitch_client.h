@@ -185,9 +185,10 @@ static inline uint32_t pitch_hear(pitch_client *client, const uint8_t *bytes, si
  * side is its best. As many as fit in an array of `quotes_len`, and in `number` how many there are;
  * what is behind them in the array stays. An array of none may be null.
  *
- * The unit keeps price levels from then on; where it had none they are made first. After
- * PITCH_NO_MEMORY nothing was heard. After PITCH_UNTOLD the block was heard and `told` is written,
- * but not the quotes: ask for the best prices that matter. */
+ * The unit keeps price levels from its first such block with messages on; where it had none they are
+ * made first. After PITCH_NO_MEMORY nothing was heard; it never comes for a heartbeat of a unit that
+ * has a client. After PITCH_UNTOLD the block was heard and `told` is written, but not the quotes: ask
+ * for the best prices that matter. */
 static inline uint32_t pitch_hear_quoted(pitch_client *client, const uint8_t *bytes, size_t len,
                                          pitch_heard_out *told, pitch_quote_out *quotes,
                                          size_t quotes_len, uint64_t *number) {

@@ -1,6 +1,7 @@
 -- When each function gives which answer.
 use Rattle.std.specs.Prelude.{◌≡◌, ◌⊎◌, ℕ, ◌==◌, nat_lt, List, Option, None, Some, if◌then◌else◌}
 use Rattle.std.specs.Prelude.{Result, Ok, Err}
+use Rattle.std.specs.Option.{IsSome}
 use Rattle.pitch_fields.specs.Limits.{most_held}
 use Rattle.pitch_fields.specs.declared.side.Side.{Side}
 use Rattle.unit_packets.specs.Blocks.{Block}
@@ -9,8 +10,9 @@ use Rattle.unit_packets.specs.Held.{StandsFirst}
 use Rattle.unit_packets.specs.declared.header.Header.{Header}
 use Rattle.unit_packets.specs.declared.header.BlockError.{BlockError}
 use Rattle.client_core.specs.declared.client.UnitClient.{UnitClient}
-use Rattle.unit_clients.specs.Clients.{Units}
+use Rattle.unit_clients.specs.Clients.{Units, client_of}
 use Rattle.unit_clients.specs.Room.{HearFreely}
+use Rattle.leveled_units.specs.Hearing.{IsIdle}
 use Rattle.pitch_c.specs.Codes as code
 
 -- this code; or, in the place of 0, that memory ran out
@@ -47,3 +49,9 @@ pub record MayTakeMemory (bytes : List ℕ) (units : Units) : Type 0 where
   pub block : Block
   pub stands : StandsFirst bytes block
   pub takes : HearFreely units block → ⊥
+
+-- so it is where quotes are asked for: its unit has no client, or it has messages and a sequence
+pub record MayTakeQuoted (bytes : List ℕ) (units : Units) : Type 0 where
+  pub block : Block
+  pub stands : StandsFirst bytes block
+  pub takes : IsSome (client_of units block.unit) → IsIdle block → ⊥

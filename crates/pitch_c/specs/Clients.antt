@@ -41,21 +41,19 @@ pub record StillHave (old new : Units) : Type 0 where
   pub heard : (before : List Block) → HaveHeard old before → HaveHeard new before
 
 -- a block was heard: whatever blocks came before, the clients then stand for these with it after
--- them, and hold as many messages as before; and this is told of it
+-- them, and hold as many messages as before; memory that was taken ahead for it and for more
+-- messages of its unit still serves those; and this is told of it
 pub record Hears (old new : Units) (block : Block) (told : HeardOut) : Type 0 where
   pub limit : new.limit ≡ old.limit
   pub heard : (before : List Block) → HaveHeard old before → HaveHeard new (block ∷ before)
   pub told_is : (before : List Block) → HaveHeard old before
       → told ≡ heard_shown (header_for block)
       (block_change old.limit (unit_history block.unit before) block)
-
--- so it was of the block that stands first in the bytes; and memory that was taken ahead for it and
--- for more messages of its unit still serves those
-pub record HearFirst (bytes : List ℕ) (old new : Units) (told : HeardOut) : Type 0 where
-  pub block : Block
-  pub stands : StandsFirst bytes block
-  pub hears : Hears old new block told
   pub room : KeepRoom old new block
+
+-- so it was of the block that stands first in the bytes
+abbrev pub HearFirst : List ℕ → Units → Units → HeardOut → Type 0
+HearFirst bytes old new told = (block : Block) × StandsFirst bytes block × Hears old new block told
 
 -- of whatever blocks they had heard, where these and the next one speak of one venue's messages for
 -- each unit, the array has what each message with which that took the reach on changed of the best

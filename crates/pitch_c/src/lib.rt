@@ -21,7 +21,7 @@ ghost use Rattle.unit_clients.specs.Clients.{client_of};
 ghost use Rattle.unit_clients.specs.Room.{HaveSpare};
 ghost use Rattle.pitch_c.specs.Codes as code;
 ghost use Rattle.pitch_c.specs.Answers.{Answers, hold_code, judged_code, client_code, side_code};
-ghost use Rattle.pitch_c.specs.Answers.{MayTakeMemory, AnswersQuoted};
+ghost use Rattle.pitch_c.specs.Answers.{MayTakeMemory, MayTakeQuoted, AnswersQuoted};
 ghost use Rattle.pitch_c.specs.Clients.{AreOpened, StillHave, HearFirst};
 ghost use Rattle.pitch_c.specs.Clients.{HearQuoted, HearUntold};
 ghost use Rattle.pitch_c.specs.Clients.{TellStatus, TellBest, TellOrder, TellOrders, TellStates};
@@ -123,7 +123,8 @@ pub extern "C" fn pitch_c_hear(
 }
 
 /// Hears the block at the start of some bytes, and tells what it changed of the best prices: as
-/// many changes as fit, and how many there are. The unit keeps price levels from then on.
+/// many changes as fit, and how many there are. The unit keeps price levels from its first such
+/// block with messages on.
 #[unsafe(no_mangle)]
 pub extern "C" fn pitch_c_hear_quoted(
     alloc: Global,
@@ -147,6 +148,8 @@ pub extern "C" fn pitch_c_hear_quoted(
         ((result ≡ code.closed) × (client.new.handle.value ≡ None)) }
     ensures answer { IfSome client.old.handle.value
         (λ old. AnswersQuoted (judged_code (judge bytes.now)) result) }
+    ensures memory { result ≡ code.no_memory
+        → IsSomeAnd client.old.handle.value (λ old. MayTakeQuoted bytes.now old) }
 {
     let Some(mut units) = take(alloc, client) else {
         return CLOSED;

@@ -1,9 +1,12 @@
 //! Hearing a block, and telling what it changed of the best prices.
 
 ghost use Rattle.std.specs.Prelude.{◌≡◌, ◌≤◌, map as mapped};
+ghost use Rattle.std.specs.Option.{IsSome};
 ghost use Rattle.unit_packets.specs.Judging.{judge};
+ghost use Rattle.unit_clients.specs.Clients.{client_of};
+ghost use Rattle.leveled_units.specs.Hearing.{IsIdle};
 ghost use Rattle.pitch_c.specs.Codes as code;
-ghost use Rattle.pitch_c.specs.Answers.{AnswersQuoted, judged_code};
+ghost use Rattle.pitch_c.specs.Answers.{AnswersQuoted, MayTakeQuoted, judged_code};
 ghost use Rattle.pitch_c.specs.Arrays.{filled};
 ghost use Rattle.pitch_c.specs.Clients.{StillHave, HearsQuoted, HearsUntold};
 ghost use Rattle.pitch_c.specs.Clients.{HearQuoted, HearUntold};
@@ -44,6 +47,8 @@ fn hear_block(
     ensures told_kept { 1 ≤ result → (result ≡ code.untold → ⊥) → told.new ≡ told.old }
     ensures kept { 1 ≤ result → (quotes.new ≡ quotes.old) × (number.new ≡ number.old) }
     ensures answer { AnswersQuoted code.ok result }
+    ensures memory { result ≡ code.no_memory
+        → IsSome (client_of units.old block.now.unit) → IsIdle block.now → ⊥ }
 {
     let mut lines = QuoteLines::make(alloc);
     let Ok(heard) = units.hear_quoted(alloc, block, &mut lines) else {
@@ -74,6 +79,7 @@ pub(crate) fn hear_quoted_first(
     ensures told_kept { 1 ≤ result → (result ≡ code.untold → ⊥) → told.new ≡ told.old }
     ensures kept { 1 ≤ result → (quotes.new ≡ quotes.old) × (number.new ≡ number.old) }
     ensures answer { AnswersQuoted (judged_code (judge bytes.now)) result }
+    ensures memory { result ≡ code.no_memory → MayTakeQuoted bytes.now units.old }
 {
     match view_block(bytes) {
         Ok(block) => hear_block(alloc, units, &block, told, quotes, number),
