@@ -9,11 +9,14 @@ use std::os::fd::AsRawFd;
 /// The token by which a wait tells of the input.
 pub const INPUT: Token = Token(0);
 
-/// Has the wait tell of the input. A file, or an input that is closed, is never waited for: then
-/// this answers an error, which is no fault.
-pub fn register_input(input: &impl AsRawFd, registry: &Registry) -> io::Result<()> {
+/// Has the wait tell of the input, and answers whether it can: a file is never waited for.
+pub fn register_input(input: &impl AsRawFd, registry: &Registry) -> io::Result<bool> {
     let number = input.as_raw_fd();
-    registry.register(&mut SourceFd(&number), INPUT, Interest::READABLE)
+    match registry.register(&mut SourceFd(&number), INPUT, Interest::READABLE) {
+        Ok(()) => Ok(true),
+        Err(error) if error.kind() == ErrorKind::PermissionDenied => Ok(false),
+        Err(error) => Err(error),
+    }
 }
 
 /// Has the next wait tell again of what is in the input. A wait tells of a change alone: what was

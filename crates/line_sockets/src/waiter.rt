@@ -37,7 +37,7 @@ impl<R: net::Net + Clock + Drop, I: Read + AsRawFd + Drop> Waiter<R, I> {
         let poll = Poll::new(&rt)?;
         let events = Events::with_capacity(alloc, sockets.saturating_add(1))?;
         let time = TimeLimit::start(&rt, seconds)?;
-        let _is_waited_for = register_input(&input, poll.registry());
+        let _is_waited_for = register_input(&input, poll.registry())?;
         Ok(Waiter {
             rt,
             poll,
@@ -56,6 +56,11 @@ impl<R: net::Net + Clock + Drop, I: Read + AsRawFd + Drop> Waiter<R, I> {
     /// By what sockets are opened and the clock is read.
     pub fn runtime(&self) -> &R {
         &self.rt
+    }
+
+    /// What the last wait told.
+    pub fn events(&self) -> &Events {
+        &self.events
     }
 
     // Whether the last wait told of the input.
@@ -79,6 +84,7 @@ impl<R: net::Net + Clock + Drop, I: Read + AsRawFd + Drop> Waiter<R, I> {
     pub fn wake(&mut self, more: bool, most: Option<Duration>) -> io::Result<bool> {
         if let Some(turns) = self.last_turns {
             self.last_turns = Some(turns.saturating_sub(1));
+            self.events.clear();
             return Ok(more && turns > 0);
         }
         let most = if more {

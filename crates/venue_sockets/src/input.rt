@@ -91,10 +91,10 @@ fn state_of<I: AsRawFd>(stream: &I, registry: &Registry, is_closed: bool) -> io:
     if is_closed {
         return Ok(State::Ended);
     }
-    match register_input(stream, registry) {
-        Ok(()) => Ok(State::Waited),
-        Err(error) if error.kind() == ErrorKind::PermissionDenied => Ok(State::File),
-        Err(error) => Err(error),
+    if register_input(stream, registry)? {
+        Ok(State::Waited)
+    } else {
+        Ok(State::File)
     }
 }
 
