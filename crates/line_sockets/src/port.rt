@@ -5,6 +5,7 @@ ghost use Rattle.libc.specs.Net.{SockOption};
 
 use mio::net::UdpSocket;
 use os::FromRawFd;
+use std::io::ErrorKind;
 use std::net::{Ipv4Addr, Net, SocketAddr};
 use std::os::fd::AsRawFd;
 use std::{io, net};
@@ -56,12 +57,31 @@ pub fn ask_for_room(socket: &UdpSocket, buffer: Buffer) {
     };
 }
 
+// Whether a socket has an option of TCP, which one of datagrams has not.
+fn is_stream(socket: &net::UdpSocket) -> bool {
+    let mut value = [0u8; 16];
+    let mut size = 4u32;
+    let status = unsafe {
+        libc::net::getsockopt(
+            socket.as_raw_fd(),
+            libc::net::IPPROTO_TCP,
+            libc::net::TCP_NODELAY,
+            &mut value,
+            &mut size,
+        )
+    };
+    status == 0
+}
+
 // The socket that was handed in. That its number is no file of another owner's is its giver's word.
 fn take_given(number: u16) -> io::Result<UdpSocket> {
     let socket = unsafe { net::UdpSocket::from_raw_fd(i32::from(number)) };
     socket.set_nonblocking(true)?;
     // What is no socket has no address.
     socket.local_addr()?;
+    if is_stream(&socket) {
+        return Err(io::Error::new(ErrorKind::InvalidInput, "not a datagram socket"));
+    }
     Ok(UdpSocket::from_std(socket))
 }
 
