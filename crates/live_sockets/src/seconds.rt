@@ -1,18 +1,28 @@
 //! The seconds that a wait tells.
 
-ghost use Rattle.std.specs.Prelude.{◌≡◌, ◌↔◌, ◌≤◌, true};
+ghost use Rattle.std.specs.Prelude.{◌≡◌, ◌↔◌, ◌≤◌, ◌+◌, true, false, IfOk};
 ghost use Rattle.std.specs.Duration.{as_nanos};
 ghost use Rattle.live_sockets.specs.layers.Seconds.{second};
 
 use std::io;
+use std::marker::Model;
 use std::time::{Clock, Duration, Instant};
 
 const SECOND: u64 = 1;
 
-/// When a second was told last.
-#[derive(Clone, Copy)]
+/// When a second was told last, by a clock, in nanoseconds.
+#[derive(Drop)]
 pub struct Seconds {
     last: Instant,
+}
+
+impl Model for Seconds {
+    ghost use Rattle.std.specs.Prelude.{ℕ};
+    ghost use Rattle.std.specs.Time.{instant_nanos};
+
+    ghost Value = { ℕ };
+
+    ghost view = { λ s. instant_nanos s.last };
 }
 
 // Whether a second has passed.
@@ -31,12 +41,17 @@ impl Seconds {
     }
 
     /// How long it is to the end of this second.
-    pub fn left<R: Clock>(&self, rt: &R) -> io::Result<Duration> {
+    pub fn left<R: Clock>(&self, rt: &R) -> io::Result<Duration>
+        ensures { IfOk result (λ left. as_nanos left ≤ second) }
+    {
         Ok(Duration::from_secs(SECOND).saturating_sub(self.last.elapsed(rt)?))
     }
 
     /// Whether this second is over. Then the next one begins now, however long it took.
-    pub fn is_over<R: Clock>(&mut self, rt: &R) -> io::Result<bool> {
+    pub fn is_over<R: Clock>(&mut self, rt: &R) -> io::Result<bool>
+        ensures passed { IfOk result (λ over. over ≡ true → self.old + second ≤ self.new) }
+        ensures same { IfOk result (λ over. over ≡ false → self.new ≡ self.old) }
+    {
         let now = Instant::now(rt)?;
         let over = is_second(now.duration_since(self.last));
         if over {
