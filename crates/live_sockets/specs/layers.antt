@@ -2,3 +2,4 @@
 pub mod Answers
 pub mod OpenPeers
 pub mod Seconds
+pub mod Tokens

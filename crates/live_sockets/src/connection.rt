@@ -15,30 +15,28 @@ use std::io::{ErrorKind, Read, Write};
 use std::net::SocketAddr;
 use std::{io, net};
 
-// The token of each connection: on every wait all are asked.
-const PEER: Token = Token(2);
-
 /// A connection, of which it may not be known yet whether it stands.
 ///
-/// One that was begun is asked for bytes, or for room, at each call. One that was let in is asked
-/// only where it may have some: until it has none, and once the wait told of it again.
+/// It is asked for bytes, or for room, only where it may have some: until it has none, and once the
+/// wait told of it again.
 #[derive(Drop)]
 pub struct Connection {
     stream: TcpStream,
     stands: bool,
-    was_begun: bool,
     may_bring: bool,
     may_take: bool,
+    // The error of the last call of the system, where it failed.
+    said: Option<io::Error>,
 }
 
 // The answer of a read. One that a signal broke off has none.
-fn of_read(read: io::Result<usize>) -> Option<PeerTaken>
-    ensures ok { IfOk read (λ n. result ≡ read_gives n) }
-    ensures err { IfErr read (λ error. result ≡ read_fails (error_kind error)) }
+fn of_read(read: &io::Result<usize>) -> Option<PeerTaken>
+    ensures ok { IfOk read.now (λ n. result ≡ read_gives n) }
+    ensures err { IfErr read.now (λ error. result ≡ read_fails (error_kind error)) }
 {
     match read {
         Ok(0) => Some(PeerTaken::Ended),
-        Ok(count) => Some(PeerTaken::Got(count)),
+        Ok(count) => Some(PeerTaken::Got(*count)),
         Err(error) => match error.kind() {
             ErrorKind::Interrupted => None,
             ErrorKind::WouldBlock => Some(PeerTaken::Quiet),
@@ -48,13 +46,13 @@ fn of_read(read: io::Result<usize>) -> Option<PeerTaken>
 }
 
 // The answer of a write. One that a signal broke off has none.
-fn of_write(write: io::Result<usize>) -> Option<PeerPut>
-    ensures ok { IfOk write (λ n. result ≡ write_gives n) }
-    ensures err { IfErr write (λ error. result ≡ write_fails (error_kind error)) }
+fn of_write(write: &io::Result<usize>) -> Option<PeerPut>
+    ensures ok { IfOk write.now (λ n. result ≡ write_gives n) }
+    ensures err { IfErr write.now (λ error. result ≡ write_fails (error_kind error)) }
 {
     match write {
         Ok(0) => Some(PeerPut::Ended),
-        Ok(count) => Some(PeerPut::Wrote(count)),
+        Ok(count) => Some(PeerPut::Wrote(*count)),
         Err(error) => match error.kind() {
             ErrorKind::Interrupted => None,
             ErrorKind::WouldBlock => Some(PeerPut::Full),
@@ -70,29 +68,30 @@ impl Connection {
         registry: &Registry,
         token: Token,
         mut stream: TcpStream,
-        was_begun: bool,
+        stands: bool,
     ) -> io::Result<Connection> {
         stream.set_nodelay(true)?;
         registry.register(&mut stream, token, Interest::READABLE | Interest::WRITABLE)?;
         Ok(Connection {
             stream,
-            stands: !was_begun,
-            was_begun,
+            stands,
             may_bring: true,
             may_take: true,
+            said: None,
         })
     }
 
-    /// Begins a connection, of which the registry's wait tells. It takes none of the descriptors 0
-    /// to 2.
+    /// Begins a connection, of which the registry's wait tells under this token. It takes none of
+    /// the descriptors 0 to 2.
     pub(crate) fn begin<R: net::Net>(
         rt: &R,
         registry: &Registry,
+        token: Token,
         addr: SocketAddr,
     ) -> io::Result<Connection> {
         let _low = take_low(rt)?;
         let stream = TcpStream::connect(rt, addr)?;
-        Connection::watched(registry, PEER, stream, true)
+        Connection::watched(registry, token, stream, false)
     }
 
     /// The connection of a stream that a listener let in. The registry's wait tells of it under
@@ -102,12 +101,14 @@ impl Connection {
         token: Token,
         stream: TcpStream,
     ) -> io::Result<Connection> {
-        Connection::watched(registry, token, stream, false)
+        Connection::watched(registry, token, stream, true)
     }
 
-    /// Closes it. The wait tells of it no more.
-    pub(crate) fn end(mut self, registry: &Registry) {
+    /// Closes it, and answers the error of the last call of the system, where it failed. The wait
+    /// tells of it no more.
+    pub(crate) fn end(mut self, registry: &Registry) -> Option<io::Error> {
         let _was_registered = registry.deregister(&mut self.stream);
+        self.said.take()
     }
 
     /// The wait told of it.
@@ -149,12 +150,21 @@ impl Connection {
         }
         match self.stands() {
             Ok(true) => {}
-            Ok(false) => return PeerTaken::Quiet,
-            Err(_) => return PeerTaken::Ended,
+            Ok(false) => {
+                self.may_bring = false;
+                return PeerTaken::Quiet;
+            }
+            Err(error) => {
+                self.said = Some(error);
+                return PeerTaken::Ended;
+            }
         }
         for _ in 0..MOST_TRIES {
-            if let Some(answer) = of_read(self.stream.read(into)) {
-                self.may_bring = self.was_begun || answer != PeerTaken::Quiet;
+            let read = self.stream.read(into);
+            let answer = of_read(&read);
+            self.said = read.err();
+            if let Some(answer) = answer {
+                self.may_bring = answer != PeerTaken::Quiet;
                 return answer;
             }
         }
@@ -171,12 +181,21 @@ impl Connection {
         }
         match self.stands() {
             Ok(true) => {}
-            Ok(false) => return PeerPut::Full,
-            Err(_) => return PeerPut::Ended,
+            Ok(false) => {
+                self.may_take = false;
+                return PeerPut::Full;
+            }
+            Err(error) => {
+                self.said = Some(error);
+                return PeerPut::Ended;
+            }
         }
         for _ in 0..MOST_TRIES {
-            if let Some(answer) = of_write(self.stream.write(piece)) {
-                self.may_take = self.was_begun || answer != PeerPut::Full;
+            let write = self.stream.write(piece);
+            let answer = of_write(&write);
+            self.said = write.err();
+            if let Some(answer) = answer {
+                self.may_take = answer != PeerPut::Full;
                 return answer;
             }
         }

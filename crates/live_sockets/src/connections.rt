@@ -12,12 +12,15 @@ use live_net::{PeerPut, PeerTaken};
 use mio::Registry;
 use mio::event::Event;
 use std::alloc::{AllocError, Global};
+use std::io;
 use std::marker::Model;
 
 /// Connections by their numbers, each of which stands or not. A caller sees which do.
 #[derive(Drop)]
 pub struct Connections {
     slots: Vec<Option<Connection>>,
+    // Of each what the system said as it was refused, or ended, last.
+    reasons: Vec<Option<io::Error>>,
 }
 
 impl Model for Connections {
@@ -28,12 +31,20 @@ impl Model for Connections {
     ghost view = { λ c. map is_some c.slots.items };
 }
 
-// Closes a connection, where there is one.
-fn close(slot: &mut Option<Connection>, registry: &Registry)
+// Keeps what the system said of one.
+fn keep(reasons: &mut [Option<io::Error>], at: u16, reason: Option<io::Error>) {
+    if let Some(kept) = reasons.get_mut(usize::from(at)) {
+        *kept = reason;
+    }
+}
+
+// Closes a connection, where there is one, and answers what the system said of it last.
+fn close(slot: &mut Option<Connection>, registry: &Registry) -> Option<io::Error>
     ensures { slot.new ≡ None }
 {
-    if let Some(connection) = slot.take() {
-        connection.end(registry);
+    match slot.take() {
+        Some(connection) => connection.end(registry),
+        None => None,
     }
 }
 
@@ -59,10 +70,12 @@ impl Connections {
         ensures { IfOk result (λ connections. connections ≡ replicate count false) }
     {
         let mut slots = Vec::with_capacity(alloc, count)?;
+        let mut reasons = Vec::with_capacity(alloc, count)?;
         for at in 0..count {
             slots.push(None)?;
+            reasons.push(None)?;
         }
-        Ok(Connections { slots })
+        Ok(Connections { slots, reasons })
     }
 
     /// Whether one of so many, from this number on, does not stand.
@@ -110,10 +123,10 @@ impl Connections {
         };
         let answer = match slot {
             Some(connection) => connection.take(into),
-            None => PeerTaken::Ended,
+            None => return PeerTaken::Ended,
         };
         if answer == PeerTaken::Ended {
-            close(slot, registry);
+            keep(&mut self.reasons, at, close(slot, registry));
         }
         answer
     }
@@ -130,10 +143,10 @@ impl Connections {
         };
         let answer = match slot {
             Some(connection) => connection.put(piece),
-            None => PeerPut::Ended,
+            None => return PeerPut::Ended,
         };
         if answer == PeerPut::Ended {
-            close(slot, registry);
+            keep(&mut self.reasons, at, close(slot, registry));
         }
         answer
     }
@@ -145,5 +158,19 @@ impl Connections {
         if let Some(slot) = self.slots.get_mut(usize::from(at)) {
             close(slot, registry);
         }
+        keep(&mut self.reasons, at, None);
+    }
+
+    /// The system refused one, for this reason.
+    pub fn refuse(&mut self, at: u16, reason: io::Error)
+        ensures { self.new ≡ self.old }
+    {
+        keep(&mut self.reasons, at, Some(reason));
+    }
+
+    /// What the system said as one was refused, or ended, last. It says nothing of one that the
+    /// other side ended in order, and of one that was closed here.
+    pub fn reason_of(&self, at: u16) -> Option<&io::Error> {
+        self.reasons.get(usize::from(at))?.as_ref()
     }
 }

@@ -10,6 +10,7 @@ mod connection;
 mod connections;
 mod seconds;
 mod sockets;
+mod tokens;
 
 pub use crate::connection::Connection;
 pub use crate::connections::Connections;

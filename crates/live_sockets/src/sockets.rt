@@ -10,8 +10,10 @@ ghost use Rattle.live_sockets.specs.layers.OpenPeers.{stands_after_put, stands_a
 use crate::connection::Connection;
 use crate::connections::Connections;
 use crate::seconds::Seconds;
+use crate::tokens::{peer_token, peer_told};
 use line_sockets::{Lines, Port, Trouble, Waiter, take_low};
 use live_net::{LiveNet, PeerOpened, PeerPut, PeerTaken, Received, WaitEnd};
+use mio::Events;
 use std::alloc::Global;
 use std::io::Read;
 use std::marker::Model;
@@ -44,6 +46,17 @@ impl<R, I> Model for LiveSockets<R, I> {
     ghost Value = { OpenLive };
 
     ghost view = { λ n. record { lines = n.lines; connected = n.peers; faults = n.faults } };
+}
+
+// Hands on what a wait told of peers.
+fn tell_all(events: &Events, peers: &mut Connections)
+    ensures { peers.new ≡ peers.old }
+{
+    for event in events {
+        if let Some(peer) = peer_told(event.token()) {
+            peers.tell(peer, event);
+        }
+    }
 }
 
 impl<R: net::Net + Clock + Drop, I: Read + AsRawFd + Drop> LiveSockets<R, I> {
@@ -88,6 +101,12 @@ impl<R: net::Net + Clock + Drop, I: Read + AsRawFd + Drop> LiveSockets<R, I> {
         self.trouble.as_ref()
     }
 
+    /// What the system said as the connection with a peer was refused, or ended, last. It says
+    /// nothing of one that the peer ended in order, and of one that was closed here.
+    pub fn trouble_of(&self, peer: u16) -> Option<&io::Error> {
+        self.peers.reason_of(peer)
+    }
+
     // Keeps what the system said, and counts a fault.
     fn fault(&mut self, trouble: Trouble)
         ensures cause { HasCause self.old.faults self.new.faults (Unit {0}) }
@@ -106,6 +125,7 @@ impl<R: net::Net + Clock + Drop, I: Read + AsRawFd + Drop> LiveSockets<R, I> {
         if !self.waiter.wake(more, Some(left))? {
             return Ok(WaitEnd::Over);
         }
+        tell_all(self.waiter.events(), &mut self.peers);
         if self.seconds.is_over(self.waiter.runtime())? {
             return Ok(WaitEnd::Second);
         }
@@ -160,8 +180,13 @@ impl<R: net::Net + Clock + Drop, I: Read + AsRawFd + Drop> LiveNet for LiveSocke
         let Some(addr) = self.addrs.get(usize::from(peer)) else {
             return PeerOpened::Refused;
         };
-        let Ok(begun) = Connection::begin(waiter.runtime(), waiter.registry(), *addr) else {
-            return PeerOpened::Refused;
+        let token = peer_token(peer);
+        let begun = match Connection::begin(waiter.runtime(), waiter.registry(), token, *addr) {
+            Ok(begun) => begun,
+            Err(reason) => {
+                self.peers.refuse(peer, reason);
+                return PeerOpened::Refused;
+            }
         };
         if !self.peers.set(peer, begun) {
             return PeerOpened::Refused;
