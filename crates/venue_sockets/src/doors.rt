@@ -164,16 +164,23 @@ impl Doors {
     }
 
     /// Closes the connections of those who wait at a door that has no free place, so that they
-    /// learn of it: of 64 at each door, at most.
-    pub(crate) fn turn_away<R: net::Net>(&mut self, rt: &R, places: &Connections) {
+    /// learn of it: of 64 at each door, at most. Answers whether a client may wait at one that has
+    /// a free place.
+    pub(crate) fn turn_away<R: net::Net>(&mut self, rt: &R, places: &Connections) -> bool {
+        let mut may_let_in = false;
         for (number, door) in self.doors.iter_mut().enumerate() {
             if let Some(door) = door {
-                let first = number.saturating_mul(self.each);
-                if door.may_have && !places.has_free(first, self.each) {
+                if !door.may_have {
+                    continue;
+                }
+                if places.has_free(number.saturating_mul(self.each), self.each) {
+                    may_let_in = true;
+                } else {
                     door.turn_away(rt);
                 }
             }
         }
+        may_let_in
     }
 
     /// Lets the next client in that waits at the door of a place, where one does. The system is

@@ -155,11 +155,11 @@ impl<R: net::Net + Clock + Drop, I: Read + AsRawFd + Drop> VenueSockets<R, I> {
         if self.input.has_ended() {
             self.waiter.end_input()?;
         }
-        // Each free place was asked for a client before this.
-        self.doors.turn_away(self.waiter.runtime(), &self.places);
+        // A place may have become free after it was asked for a client.
+        let may_let_in = self.doors.turn_away(self.waiter.runtime(), &self.places);
         let has_file = self.input.tell_file();
         let left = self.seconds.left(self.waiter.runtime())?;
-        if !self.waiter.wake(more || has_file, left)? {
+        if !self.waiter.wake(more || may_let_in || has_file, left)? {
             return Ok(WaitEnd::Over);
         }
         tell_all(
