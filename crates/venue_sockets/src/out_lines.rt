@@ -7,8 +7,8 @@ use line_sockets::{Buffer, ask_for_room};
 use mio::net::UdpSocket;
 use std::alloc::Global;
 use std::marker::Model;
-use std::net;
 use std::net::{Ipv4Addr, Ipv6Addr, SocketAddr};
+use std::{io, net};
 
 /// Where the datagrams of each line go, if anywhere, and a socket for each kind of address that is
 /// among them. A caller sees how many lines there are.
@@ -17,6 +17,9 @@ pub struct OutLines {
     to: Vec<Option<SocketAddr>>,
     v4: Option<UdpSocket>,
     v6: Option<UdpSocket>,
+    // How many datagrams were not sent, and what the system said of the last one.
+    send_errors: u64,
+    trouble: Option<VenueTrouble>,
 }
 
 impl Model for OutLines {
@@ -64,21 +67,48 @@ impl OutLines {
             line = line.saturating_add(1);
         }
         let to = Vec::from_slice(alloc, to)?;
-        Ok(OutLines { to, v4, v6 })
+        Ok(OutLines {
+            to,
+            v4,
+            v6,
+            send_errors: 0,
+            trouble: None,
+        })
     }
 
-    /// Sends a datagram on a line. It is lost where there is no room for it, where the system
-    /// refuses it, and where there is no such line, or it leads nowhere.
-    pub(crate) fn send(&self, line: u16, datagram: &[u8]) {
+    /// How many datagrams the system had no room for, or refused.
+    pub(crate) fn send_errors(&self) -> u64 {
+        self.send_errors
+    }
+
+    /// What the system said of the last of these.
+    pub(crate) fn trouble(&self) -> Option<&VenueTrouble> {
+        self.trouble.as_ref()
+    }
+
+    // Sends a datagram on a line, where that leads anywhere.
+    fn try_to_send(&self, line: u16, datagram: &[u8]) -> io::Result<()> {
         let Some(Some(to)) = self.to.get(usize::from(line)) else {
-            return;
+            return Ok(());
         };
         let socket = match to {
             SocketAddr::V4(_) => &self.v4,
             SocketAddr::V6(_) => &self.v6,
         };
         if let Some(socket) = socket {
-            let _sent = socket.send_to(datagram, *to);
+            socket.send_to(datagram, *to)?;
+        }
+        Ok(())
+    }
+
+    /// Sends a datagram on a line. Where there is no room for it, or the system refuses it, it is
+    /// lost, and counted. It is lost too where there is no such line, or it leads nowhere.
+    pub(crate) fn send(&mut self, line: u16, datagram: &[u8])
+        ensures { self.new ≡ self.old }
+    {
+        if let Err(reason) = self.try_to_send(line, datagram) {
+            self.trouble = Some(VenueTrouble::of_line(line, reason));
+            self.send_errors = self.send_errors.saturating_add(1);
         }
     }
 }

@@ -138,6 +138,16 @@ impl<R: net::Net + Clock + Drop, I: Read + AsRawFd + Drop> VenueSockets<R, I> {
         self.trouble.as_ref()
     }
 
+    /// How many datagrams were not sent, since the system had no room for them or refused them.
+    pub fn send_errors(&self) -> u64 {
+        self.lines.send_errors()
+    }
+
+    /// What the system said of the last of these, and of which line.
+    pub fn send_trouble(&self) -> Option<&VenueTrouble> {
+        self.lines.trouble()
+    }
+
     // Keeps what the system said, and counts a fault.
     fn fault(&mut self, trouble: VenueTrouble)
         ensures cause { HasCause self.old.faults self.new.faults (Unit {0}) }
