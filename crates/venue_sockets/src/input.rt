@@ -1,15 +1,19 @@
 //! The input of commands: a stream, or a text that the venue makes itself.
 
-ghost use Rattle.std.specs.Prelude.{◌≡◌, ◌<◌, length, IfOk, IfErr, Ok, Err};
+ghost use Rattle.std.specs.Prelude.{◌≡◌, ◌≢◌, ◌↔◌, ◌<◌, length, true, IfOk, IfErr, Ok, Err};
+ghost use Rattle.std.specs.Prelude.{Some};
 ghost use Rattle.std.specs.IoError.{error_kind};
 ghost use Rattle.venue_net.specs.VenueCalls.{ReadFailed, ReadWithin};
-ghost use Rattle.venue_sockets.specs.layers.Inputs.{IsQuiet, input_gives};
+ghost use Rattle.venue_sockets.specs.layers.Inputs.{IsQuiet, after_second, after_told, being_read};
+ghost use Rattle.venue_sockets.specs.layers.Inputs.{input_gives, told_of_file, unread};
 
+use crate::state::State;
 use line_sockets::{ask_again, register_input};
 use mio::Registry;
 use pitch_fields::OutOfMemory;
 use std::io;
 use std::io::{ErrorKind, Read};
+use std::marker::Model;
 use std::os::fd::AsRawFd;
 use venue_net::InputRead;
 use venue_plan::PlanText;
@@ -23,29 +27,19 @@ pub enum VenueInput<I> {
     Plan(PlanText),
 }
 
-// What is known of an input.
-#[derive(Clone, Copy, PartialEq, Eq)]
-enum State {
-    // The wait tells when something is there.
-    Waited,
-    // The wait told that something may be there.
-    Told,
-    // A file, in which something is always there, or a plan of which more may be due. No wait has
-    // told so since it was read.
-    File,
-    // Such a one of which a wait told.
-    ToldFile,
-    // A plan of which no more is due before the next second.
-    Resting,
-    // It is at its end.
-    Ended,
-}
-
 /// An input that is read no more often than a read returns at once.
 #[derive(Drop)]
 pub struct Input<I> {
     source: VenueInput<I>,
     state: State,
+}
+
+impl<I> Model for Input<I> {
+    ghost use Rattle.venue_sockets.specs.declared.state.State.{State};
+
+    ghost Value = { State };
+
+    ghost view = { λ i. i.state };
 }
 
 // The answer of a read, or why it failed.
@@ -86,15 +80,32 @@ fn read_from<I: Read>(source: &mut VenueInput<I>, into: &mut [u8]) -> io::Result
     }
 }
 
-// What is known at first of a stream.
-fn state_of<I: AsRawFd>(stream: &I, registry: &Registry, is_closed: bool) -> io::Result<State> {
-    if is_closed {
-        return Ok(State::Ended);
+// What is known at first of an input that is not closed.
+fn first_state<I: AsRawFd>(source: &VenueInput<I>, registry: &Registry) -> io::Result<State>
+    ensures { IfOk result (λ state. state ≢ State.Ended) }
+{
+    match source {
+        VenueInput::Stream(stream) => {
+            if register_input(stream, registry)? {
+                Ok(State::Waited)
+            } else {
+                Ok(State::File)
+            }
+        }
+        VenueInput::Plan(_) => Ok(State::File),
     }
-    if register_input(stream, registry)? {
-        Ok(State::Waited)
-    } else {
-        Ok(State::File)
+}
+
+// What is known after this answer of a read. A plan of which no more is due rests to the next
+// second.
+fn state_after<I>(source: &VenueInput<I>, answer: InputRead, state: State) -> State
+    ensures ends { answer ≡ InputRead.Ended → result ≡ State.Ended }
+    ensures goes_on { answer ≢ InputRead.Ended → state ≢ State.Ended → result ≢ State.Ended }
+{
+    match (answer, source) {
+        (InputRead::Ended, _) => State::Ended,
+        (InputRead::Quiet, VenueInput::Plan(_)) => State::Resting,
+        _ => state,
     }
 }
 
@@ -105,67 +116,62 @@ impl<I: Read + AsRawFd + Drop> Input<I> {
         source: VenueInput<I>,
         registry: &Registry,
         is_closed: bool,
-    ) -> io::Result<Input<I>> {
-        let state = match &source {
-            VenueInput::Stream(stream) => state_of(stream, registry, is_closed)?,
-            VenueInput::Plan(_) => State::File,
+    ) -> io::Result<Input<I>>
+        ensures { IfOk result (λ input. input ≡ State.Ended ↔ is_closed ≡ true) }
+    {
+        let state = if is_closed {
+            State::Ended
+        } else {
+            first_state(&source, registry)?
         };
         Ok(Input { source, state })
     }
 
     /// The wait told of it.
-    pub(crate) fn tell(&mut self) {
-        if self.state == State::Waited {
-            self.state = State::Told;
-        }
+    pub(crate) fn tell(&mut self)
+        ensures { self.new ≡ after_told self.old }
+    {
+        self.state = self.state.after_told();
     }
 
     /// A second has passed, for which a plan has more.
-    pub(crate) fn second(&mut self) {
+    pub(crate) fn second(&mut self)
+        ensures { self.new ≡ after_second self.old }
+    {
         if let VenueInput::Plan(plan) = &mut self.source {
             plan.second();
-            if self.state == State::Resting {
-                self.state = State::File;
-            }
         }
+        self.state = self.state.after_second();
     }
 
     /// Tells of a file or a plan that was read, or of a new one. Answers whether it did.
-    pub(crate) fn tell_file(&mut self) -> bool {
+    pub(crate) fn tell_file(&mut self) -> bool
+        ensures told { result ≡ true ↔ self.old ≡ State.File }
+        ensures after { self.new ≡ told_of_file self.old }
+    {
         let is_new = self.state == State::File;
-        if is_new {
-            self.state = State::ToldFile;
-        }
+        self.state = self.state.told_of_file();
         is_new
     }
 
     /// Whether it is at its end.
-    pub(crate) fn has_ended(&self) -> bool {
+    pub(crate) fn has_ended(&self) -> bool
+        ensures { result ≡ true ↔ self.now ≡ State.Ended }
+    {
         self.state == State::Ended
     }
 
-    // Whether a read returns at once. Then the next wait is to tell again of what a read leaves.
-    fn may_read(&mut self, registry: &Registry) -> io::Result<bool> {
-        match self.state {
-            State::Waited | State::Resting | State::Ended => return Ok(false),
-            State::Told => {
-                if let VenueInput::Stream(stream) = &self.source {
-                    ask_again(stream, registry)?;
-                }
-                self.state = State::Waited;
+    // Has the next wait tell again of what a read leaves.
+    fn begin_read(&mut self, registry: &Registry) -> io::Result<()>
+        ensures { IfOk result (λ _. self.new ≡ being_read self.old) }
+    {
+        if self.state == State::Told {
+            if let VenueInput::Stream(stream) = &self.source {
+                ask_again(stream, registry)?;
             }
-            State::File | State::ToldFile => self.state = State::File,
         }
-        Ok(true)
-    }
-
-    // What is known after this answer of a read.
-    fn state_after(&self, answer: InputRead) -> State {
-        match (answer, &self.source) {
-            (InputRead::Ended, _) => State::Ended,
-            (InputRead::Quiet, VenueInput::Plan(_)) => State::Resting,
-            _ => self.state,
-        }
+        self.state = self.state.being_read();
+        Ok(())
     }
 
     /// Reads the next bytes to the start of the slice.
@@ -173,15 +179,17 @@ impl<I: Read + AsRawFd + Drop> Input<I> {
         requires { 0 < length into.old }
         ensures count { IfOk result (λ answer. ReadWithin answer into.new) }
         ensures fails { IfOk result (λ answer. ¬ ReadFailed answer) }
+        ensures unread { (answer : InputRead) → unread self.old ≡ Some answer
+            → result ≡ Ok answer }
+        ensures ends { IfOk result (λ answer.
+            self.new ≡ State.Ended ↔ answer ≡ InputRead.Ended) }
     {
-        if self.has_ended() {
-            return Ok(InputRead::Ended);
+        if let Some(answer) = self.state.unread() {
+            return Ok(answer);
         }
-        if !self.may_read(registry)? {
-            return Ok(InputRead::Quiet);
-        }
+        self.begin_read(registry)?;
         let answer = read_from(&mut self.source, into)?;
-        self.state = self.state_after(answer);
+        self.state = state_after(&self.source, answer, self.state);
         Ok(answer)
     }
 }

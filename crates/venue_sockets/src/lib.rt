@@ -11,6 +11,7 @@ mod doors;
 mod input;
 mod out_lines;
 mod sockets;
+mod state;
 mod tokens;
 mod trouble;
 mod waiter;
