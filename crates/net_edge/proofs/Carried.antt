@@ -90,7 +90,8 @@ put_came answer piece later now put waits is =
 
 -- ---- Both ends, beside a venue of these messages
 module _ (M : List Raw) where
-  -- the client's end stands for all that came to it, and these bytes came by its session with the Spin Server; where G holds, all of it is the venue's
+  -- the client's end stands for all that came to it, and these bytes came by its session with the
+  -- Spin Server; where G holds, all of it is the venue's
   pub record ClientCameTo (G : Type 0) (now : EndState) (bytes : List ℕ) : Type 0 where
     pub came : List Came
     pub now_is : now ≡ end_after demo_client came

@@ -1,4 +1,5 @@
--- What a proxy answers: it knows the second that it knew, and P holds of what it sends on the gap line, where P holds of each range.
+-- What a proxy answers: it knows the second that it knew, and P holds of what it sends on the gap
+-- line, where P holds of each range.
 use Rattle.std.proofs.Common.{◌≡◌, ℕ, ◌||◌, Bool, true, false, List, [], ◌∷◌, ◌++◌, length, arith, Option, Some, None, is_some, nat_eq, refl, ◌∙◌}
 use Rattle.std.specs.List.{AllByRecursion}
 use Rattle.std.proofs.lemmas.Bool.{cond_both}
