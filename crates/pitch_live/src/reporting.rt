@@ -1,6 +1,6 @@
 //! A run that serves units and reports: the books at its end, and what each client asked.
 
-use crate::says::{say_input, say_out_of_memory, say_report};
+use crate::says::{say_input, say_out_of_memory, say_report, say_unsent};
 use crate::serving::say_early;
 use harmed_venue::HarmedVenue;
 use live_setups::{ExitStatus, report_status};
@@ -58,7 +58,9 @@ pub fn report_to<'a, I: Read + AsRawFd + Drop>(
     };
     let mut report = StdSink::make(books);
     let ended = serve_and_report(alloc, setup, &mut net, &mut report);
-    let trouble = net.net().net().trouble();
+    let sockets = net.net().net();
+    say_unsent(rt, sockets.send_errors(), sockets.send_trouble());
+    let trouble = sockets.trouble();
     match ended {
         Ok(()) => say_watched(rt, asked_path.as_str(), net.trouble()),
         Err(ReportError::Serve(error)) => say_early(rt, asked, error, trouble),

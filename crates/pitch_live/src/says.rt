@@ -109,6 +109,13 @@ fn unit_at(units: &[UnitWords], at: u16) -> u8 {
     }
 }
 
+/// How many datagrams were not sent, where there are any, and what the system said of the last.
+pub fn say_unsent(rt: &HostRuntime, count: u64, trouble: Option<&VenueTrouble>) {
+    if let Some(trouble) = trouble {
+        let _said = eprintln!(rt; "pitch_live: send errors {count}: {}", trouble.reason);
+    }
+}
+
 /// What the system said of a part of a venue's net.
 pub fn say_venue_trouble(
     rt: &HostRuntime,

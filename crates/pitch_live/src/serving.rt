@@ -1,7 +1,7 @@
 //! A run that serves units.
 
 use crate::reporting::report_to;
-use crate::says::{say_input, say_out_of_memory, say_usage, say_venue_trouble};
+use crate::says::{say_input, say_out_of_memory, say_unsent, say_usage, say_venue_trouble};
 use harmed_venue::HarmedVenue;
 use live_setups::{ExitStatus, ServeRun, serve_run, serve_status};
 use live_venue::{ServeError, serve as serve_units};
@@ -57,6 +57,7 @@ fn serve_over(
         return report_to(rt, asked, &setup, &units, net, path.as_str());
     }
     let ended = serve_units(alloc, &setup, &mut net);
+    say_unsent(rt, net.net().send_errors(), net.net().send_trouble());
     if let Err(error) = ended {
         say_early(rt, asked, error, net.net().trouble());
     }
