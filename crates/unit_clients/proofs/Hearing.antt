@@ -10,11 +10,11 @@ use Rattle.pitch_model.specs.Honest.{Honest}
 use Rattle.pitch_model.proofs.Results.{on_ok_map}
 use Rattle.heard_items.specs.Heard.{heard_block}
 use Rattle.heard_items.specs.Units.{unit_history}
-use Rattle.heard_items.proofs.Units.{history_same, history_other, all_honest_before}
+use Rattle.heard_items.proofs.Units.{history_same, history_other, honest_block}
 use Rattle.client_core.specs.Tracks.{Tracks, Keeps}
 use Rattle.client_core.specs.declared.client.UnitClient.{UnitClient}
-use Rattle.unit_clients.specs.Clients.{Units, is_named, IsClient, TracksAt, IsSlotAsBefore, Clients, KeepsTo, AllKeep, HaveHeard, client_of}
-use Rattle.unit_clients.specs.Tables.{with_place}
+use Rattle.unit_clients.specs.Clients.{Units, is_named, IsClient, TracksAt, IsSlotAsBefore, Clients, KeepsTo, KeepsToVenues, HaveHeard, client_of}
+use Rattle.unit_clients.specs.Tables.{with_place, AtEach}
 use Rattle.unit_clients.proofs.Placing.{each_set, set_there}
 
 -- ---- Units that no block names
@@ -67,10 +67,19 @@ clients_hear H clients slot block before stands heard =
     each_set (IsClient H before) (IsClient H (block ∷ before)) clients block.unit slot stands (other_client H block before)
     (client_hears H (block ∷ before) block.unit slot (named_first block before block.unit refl) (subst (λ (E : List Entry). TracksAt H E slot) (sym (history_same block before)) heard))
 
-pub clients_keep : (Vs : ℕ → List Raw) (u : ℕ) (clients : List (Option UnitClient)) (slot : Option UnitClient) → AllKeep Vs clients → KeepsTo (Vs u) slot → AllKeep Vs (set clients u slot)
-clients_keep Vs u clients slot keeps kept =
-    let P : ℕ → Option UnitClient → Type 0 = λ unit client. KeepsTo (Vs unit) client in
-    each_set P P clients u slot keeps (λ unit other apart still. still) kept
+-- what a block of another unit says is nothing to a client
+other_keeps : (block : Block) (before : List Block) (unit : ℕ) (slot : Option UnitClient) → unit ≢ block.unit → KeepsToVenues before unit slot → KeepsToVenues (block ∷ before) unit slot
+other_keeps block before unit slot other kept = λ Image V honest.
+    kept Image V (subst (Honest Image V) (history_other unit block before (λ same. other (sym same))) honest)
+
+pub clients_keep : (block : Block) (before : List Block) (clients : List (Option UnitClient)) (was slot : Option UnitClient) → slice_get clients block.unit ≡ Some was → AtEach (KeepsToVenues before) clients
+    → ((Image : List Raw → ℕ → List Raw) (V : List Raw) (E : List Entry) → Honest Image V (heard_block block E) → KeepsTo V was → KeepsTo V slot)
+    → AtEach (KeepsToVenues (block ∷ before)) (set clients block.unit slot)
+clients_keep block before clients was slot there kept keeps =
+    each_set (KeepsToVenues before) (KeepsToVenues (block ∷ before)) clients block.unit slot kept (other_keeps block before) (λ Image V honest.
+    let E : List Entry = unit_history block.unit before in
+    let here : Honest Image V (heard_block block E) = subst (Honest Image V) (history_same block before) honest in
+    keeps Image V E here (kept.each block.unit was there Image V (honest_block Image V block E here)))
 
 -- ---- A block that was not heard for want of memory
 client_still : (H : ℕ) (before : List Block) (unit : ℕ) (old slot : Option UnitClient) → IsSlotAsBefore old slot → IsClient H before unit old → IsClient H before unit slot
@@ -87,14 +96,16 @@ pub clients_still : (H u : ℕ) (clients : List (Option UnitClient)) (was slot :
 clients_still H u clients was slot before there same stands =
     each_set (IsClient H before) (IsClient H before) clients u slot stands (λ unit other apart kept. kept) (client_still H before u was slot same (stands.each u was there))
 
-pub all_keep_still : (Vs : ℕ → List Raw) (u : ℕ) (clients : List (Option UnitClient)) (was slot : Option UnitClient) → slice_get clients u ≡ Some was → IsSlotAsBefore was slot → AllKeep Vs clients → AllKeep Vs (set clients u slot)
-all_keep_still Vs u clients was slot there same keeps = clients_keep Vs u clients slot keeps (keeps_still (Vs u) was slot same (keeps.each u was there))
+keep_still : (u : ℕ) (clients : List (Option UnitClient)) (was slot : Option UnitClient) (before : List Block) → slice_get clients u ≡ Some was → IsSlotAsBefore was slot → AtEach (KeepsToVenues before) clients → AtEach (KeepsToVenues before) (set clients u slot)
+keep_still u clients was slot before there same keeps =
+    each_set (KeepsToVenues before) (KeepsToVenues before) clients u slot keeps (λ unit other apart kept. kept)
+    (λ Image V honest. keeps_still V was slot same (keeps.each u was there Image V honest))
 
 pub all_still : (units : Units) (u : ℕ) (was slot : Option UnitClient) → slice_get units.places u ≡ Some was → IsSlotAsBefore was slot → (before : List Block) → HaveHeard units before → HaveHeard (with_place units u slot) before
 all_still units u was slot there same before heard = record {
   clients = clients_still units.limit u units.places was slot before there same heard.clients;
   named = heard.named;
-  keep = λ Image Vs honest. all_keep_still Vs u units.places was slot there same (heard.keep Image Vs honest);
+  keep = keep_still u units.places was slot before there same heard.keep;
 }
 
 -- ---- The client of a unit
@@ -133,8 +144,5 @@ table_hears table block was slot there tracks keeps before heard =
     record {
       clients = clients_hear table.limit table.places slot block before heard.clients (tracks before block.unit (heard.clients.each block.unit was there));
       named = low_more 256 block before (omega arith) heard.named;
-      keep = λ Image Vs honest.
-          let kept = heard.keep Image Vs (all_honest_before Image Vs block before honest) in
-          let here : Honest Image (Vs block.unit) (heard_block block (unit_history block.unit before)) = subst (Honest Image (Vs block.unit)) (history_same block before) (honest block.unit) in
-          clients_keep Vs block.unit table.places slot kept (keeps Image (Vs block.unit) (unit_history block.unit before) here (kept.each block.unit was there));
+      keep = clients_keep block before table.places was slot there heard.keep keeps;
     }

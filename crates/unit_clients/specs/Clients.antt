@@ -5,7 +5,8 @@ use Rattle.std.specs.Option.{option_flatten}
 use Rattle.std.specs.List.{list_any}
 use Rattle.unit_packets.specs.Blocks.{Block}
 use Rattle.pitch_model.specs.History.{Raw, Entry}
-use Rattle.heard_items.specs.Units.{unit_history, AllHonest}
+use Rattle.pitch_model.specs.Honest.{Honest}
+use Rattle.heard_items.specs.Units.{unit_history}
 use Rattle.client_core.specs.Tracks.{Tracks, Keeps}
 use Rattle.client_core.specs.Client.{IsAsBefore}
 use Rattle.client_core.specs.declared.client.UnitClient.{UnitClient}
@@ -49,18 +50,21 @@ IsSlotAsBefore (Some client) (Some client') = IsAsBefore client client'
 abbrev pub Clients : ℕ → List (Option UnitClient) → List Block → Type 0
 Clients H clients before = AtEach (IsClient H before) clients
 
--- a unit's client, where it has one, keeps to its venue's messages
+-- a unit's client, where it has one, keeps to these messages
 abbrev pub KeepsTo : List Raw → Option UnitClient → Type 0
 KeepsTo V None = Unit {0}
 KeepsTo V (Some client) = Keeps client V
 
-abbrev pub AllKeep : (ℕ → List Raw) → List (Option UnitClient) → Type 0
-AllKeep Vs clients = AtEach (λ unit client. KeepsTo (Vs unit) client) clients
+-- so it does to each venue's messages of which the unit's blocks speak honestly; it is nothing to
+-- it whether those of other units do
+abbrev pub KeepsToVenues : List Block → ℕ → Option UnitClient → Type 0
+KeepsToVenues before unit client =
+    (Image : List Raw → ℕ → List Raw) (V : List Raw)
+    → Honest Image V (unit_history unit before) → KeepsTo V client
 
--- each unit's client heard its blocks, and keeps to its venue's messages wherever the blocks speak
--- of no others
+-- each unit's client heard its blocks, and keeps to its venue's messages wherever these blocks
+-- speak of no others
 pub record HaveHeard (units : Units) (before : List Block) : Type 0 where
   pub clients : Clients units.limit units.places before
   pub named : AreUnits before
-  pub keep : (Image : List Raw → ℕ → List Raw) (Vs : ℕ → List Raw)
-      → AllHonest Image Vs before → AllKeep Vs units.places
+  pub keep : AtEach (KeepsToVenues before) units.places
