@@ -7,7 +7,6 @@ use Rattle.std.proofs.lemmas.Bool.{lt-ltb, le-ltb}
 use Rattle.pitch_io.specs.Putting.{Grows}
 use Rattle.unit_packets.specs.Blocks.{Block}
 use Rattle.pitch_model.specs.History.{Raw}
-use Rattle.feed_lines.specs.Follow.{lines_after, books_of}
 use Rattle.relay_unit.proofs.Bytes.{heard_within}
 use Rattle.stream_print.specs.Carriers.{carried_blocks, with_counts}
 use Rattle.stream_print.specs.layers.Suiting.{Suits}
@@ -23,16 +22,15 @@ use Rattle.stream_print.specs.Printing.{PrintsPiece}
 use Rattle.stream_print.specs.Putting.{PutsSome}
 use Rattle.stream_print.specs.Sinks.{PutsSuch}
 use Rattle.stream_print.specs.Readers.{blocks_with}
-use Rattle.stream_print.specs.Texts.{AreVenuesOf, texts_by, AreTexts, BeginTexts, IsText}
-use Rattle.stream_print.specs.Texts.{IsPrefixOfText}
+use Rattle.stream_print.specs.Texts.{AreVenuesOf, AreTexts, BeginTexts, IsText}
 use Rattle.stream_print.specs.TextLaws.{AreTextsAfter, BeginTextsAfter, Outruns, OutrunsAmong}
-use Rattle.stream_print.specs.TextLaws.{IsEnd, IsPrefixOfEnd}
+use Rattle.stream_print.specs.TextLaws.{IsEnd}
 use Rattle.stream_print.specs.declared.printer.Printer.{Printer}
 use Rattle.stream_print.specs.declared.reader.StreamReader.{StreamReader}
 use Rattle.stream_print.specs.declared.failure.StreamTrouble.{StreamTrouble}
 use Rattle.stream_print.specs.declared.failure.StreamTrouble.TheVariants.{TooLong}
 use Rattle.stream_print.proofs.Carriers.{blocks_split, blocks_longer, trouble_lasts, counts_behind}
-use Rattle.stream_print.proofs.Printing.{prints_more, prints_whole, prints_written, puts_after, such_more, such_then}
+use Rattle.stream_print.proofs.Printing.{prints_more, prints_whole, prints_written, puts_after, puts_longer, such_more, such_then}
 use Rattle.stream_print.proofs.Streaming.{texts_joined, begin_joined, begin_longer}
 
 -- ---- Texts of longer bytes
@@ -262,53 +260,13 @@ no_venues : ℕ → List Raw
 no_venues unit = []
 
 is_text : (carrier : Carrier) (form : StreamForm) (bytes texts end : List ℕ) → AreTexts form (carried_blocks carrier bytes) texts → IsEnd form (reverse (carried_blocks carrier bytes)) end → IsText carrier form bytes (with_counts carrier bytes (texts ++ end))
-is_text carrier (Follow hold) bytes texts end are is = record {
-  lines = (end, ap (λ (t : List ℕ). with_counts carrier bytes (t ++ end)) (are no_venues tt));
-  honest = λ Image Vs honest. ap (with_counts carrier bytes) (ap (λ (t : List ℕ). t ++ end) (are Vs tt) ∙ ap (λ (t : List ℕ). lines_after hold [] (carried_blocks carrier bytes) ++ t) (is Image Vs honest));
-}
+is_text carrier (Follow hold) bytes texts end are is = (
+  texts ++ end,
+  (record { books = end; are_books = is; text_is = ap (λ (t : List ℕ). t ++ end) (are no_venues tt) }, refl),
+)
 is_text carrier Show bytes texts end are is = ap (with_counts carrier bytes) (no_end texts end is ∙ are no_venues tt)
 is_text carrier (Relay hold) bytes texts end are is = λ Vs venues. ap (with_counts carrier bytes) (no_end texts end is ∙ are Vs venues)
 is_text carrier (Quotes hold) bytes texts end are is = λ Vs venues. ap (with_counts carrier bytes) (no_end texts end is ∙ are Vs venues)
-
--- a prefix of what is printed at the end
-begins_with : (carrier : Carrier) (bytes texts end whole : List ℕ) → ◌≡◌ {A = List ℕ} end [] → texts ≡ whole → (more : List ℕ) × (with_counts carrier bytes whole ≡ (texts ++ end) ++ more)
-begins_with carrier bytes texts end whole none is =
-    let behind = counts_behind carrier bytes texts in
-    (behind.0, ap (with_counts carrier bytes) (sym is) ∙ behind.1 ∙ ap (λ (t : List ℕ). t ++ behind.0) (sym (no_end texts end none)))
-
-is_prefix : (carrier : Carrier) (form : StreamForm) (bytes texts end : List ℕ) → AreTexts form (carried_blocks carrier bytes) texts → IsPrefixOfEnd form (reverse (carried_blocks carrier bytes)) end → IsPrefixOfText carrier form bytes (texts ++ end)
-is_prefix carrier (Follow hold) bytes texts end are first = record {
-  lines = (end, ap (λ (t : List ℕ). t ++ end) (are no_venues tt));
-  honest = λ Image Vs honest.
-      let here = first Image Vs honest in
-      let behind = counts_behind carrier bytes ((texts ++ end) ++ here.0) in (
-        here.0 ++ behind.0,
-        ap (with_counts carrier bytes) (ap (λ (t : List ℕ). t ++ books_of hold Vs (reverse (carried_blocks carrier bytes))) (sym (are Vs tt)) ∙ ap (λ (t : List ℕ). texts ++ t) here.1 ∙ sym (append_assoc texts end here.0))
-            ∙ behind.1 ∙ append_assoc (texts ++ end) here.0 behind.0,
-      );
-}
-is_prefix carrier Show bytes texts end are is = begins_with carrier bytes texts end (texts_by Show no_venues [] (carried_blocks carrier bytes)) is (are no_venues tt)
-is_prefix carrier (Relay hold) bytes texts end are is = λ Vs venues. begins_with carrier bytes texts end (texts_by (Relay hold) Vs [] (carried_blocks carrier bytes)) is (are Vs venues)
-is_prefix carrier (Quotes hold) bytes texts end are is = λ Vs venues. begins_with carrier bytes texts end (texts_by (Quotes hold) Vs [] (carried_blocks carrier bytes)) is (are Vs venues)
-
--- the whole is a prefix of itself
-is_whole : (carrier : Carrier) (bytes texts end counts whole : List ℕ) → ◌≡◌ {A = List ℕ} end [] → texts ≡ whole → with_counts carrier bytes (texts ++ end) ≡ (texts ++ end) ++ counts
-    → (more : List ℕ) × (with_counts carrier bytes whole ≡ ((texts ++ end) ++ counts) ++ more)
-is_whole carrier bytes texts end counts whole none is all = ([], ap (with_counts carrier bytes) (sym (no_end texts end none ∙ is)) ∙ all ∙ sym (append-nil ((texts ++ end) ++ counts)))
-
-is_all : (carrier : Carrier) (form : StreamForm) (bytes texts end counts : List ℕ) → AreTexts form (carried_blocks carrier bytes) texts → IsEnd form (reverse (carried_blocks carrier bytes)) end
-    → with_counts carrier bytes (texts ++ end) ≡ (texts ++ end) ++ counts → IsPrefixOfText carrier form bytes ((texts ++ end) ++ counts)
-is_all carrier (Follow hold) bytes texts end counts are is whole = record {
-  lines = (end ++ counts, append_assoc texts end counts ∙ ap (λ (t : List ℕ). t ++ (end ++ counts)) (are no_venues tt));
-  honest = λ Image Vs honest. (
-    [],
-    ap (with_counts carrier bytes) (ap (λ (t : List ℕ). t ++ books_of hold Vs (reverse (carried_blocks carrier bytes))) (sym (are Vs tt)) ∙ ap (λ (t : List ℕ). texts ++ t) (sym (is Image Vs honest)))
-        ∙ whole ∙ sym (append-nil ((texts ++ end) ++ counts)),
-  );
-}
-is_all carrier Show bytes texts end counts are is whole = is_whole carrier bytes texts end counts (texts_by Show no_venues [] (carried_blocks carrier bytes)) is (are no_venues tt) whole
-is_all carrier (Relay hold) bytes texts end counts are is whole = λ Vs venues. is_whole carrier bytes texts end counts (texts_by (Relay hold) Vs [] (carried_blocks carrier bytes)) is (are Vs venues) whole
-is_all carrier (Quotes hold) bytes texts end counts are is whole = λ Vs venues. is_whole carrier bytes texts end counts (texts_by (Quotes hold) Vs [] (carried_blocks carrier bytes)) is (are Vs venues) whole
 
 -- all was written
 pub writes_whole : (carrier : Carrier) (form : StreamForm) (most : ℕ) (first before now start written : Option (List ℕ)) (bytes texts end counts : List ℕ) → length bytes ≤ most → Consumes first before bytes → IsAtEnd before × Keeps before now
@@ -327,18 +285,20 @@ writes_whole carrier form most first before now start written bytes texts end co
 -- a prefix of the texts was written
 pub writes_texts : (carrier : Carrier) (form : StreamForm) (first now start written : Option (List ℕ)) (bytes : List ℕ) → Consumes first now bytes → PutsSuch (BeginTexts form (carried_blocks carrier bytes)) start [] written
     → WritesSome carrier form (between first now) (between start written)
-writes_texts carrier form first now start written bytes read some = record { bytes = bytes; read = read; text = some.text; wrote = some.puts; is_prefix = inl some.such }
+writes_texts carrier form first now start written bytes read some = record { bytes = bytes; read = read; text = some.text; wrote = some.puts; is_text = inl some.such }
 
 -- a prefix of the whole text was written
 pub writes_prefix : (carrier : Carrier) (form : StreamForm) (first before now start written : Option (List ℕ)) (bytes texts end : List ℕ) → Consumes first now bytes → Consumes first before bytes → IsAtEnd before × Keeps before now
-    → AreTexts form (carried_blocks carrier bytes) texts → IsPrefixOfEnd form (reverse (carried_blocks carrier bytes)) end → PutsSome start written (texts ++ end) → WritesSome carrier form (between first now) (between start written)
-writes_prefix carrier form first before now start written bytes texts end read so_far ends are first_of puts = record {
-  bytes = bytes;
-  read = read;
-  text = texts ++ end;
-  wrote = puts;
-  is_prefix = inr ((has_all first before now bytes so_far ends).1, is_prefix carrier form bytes texts end are first_of);
-}
+    → AreTexts form (carried_blocks carrier bytes) texts → IsEnd form (reverse (carried_blocks carrier bytes)) end → PutsSome start written (texts ++ end) → WritesSome carrier form (between first now) (between start written)
+writes_prefix carrier form first before now start written bytes texts end read so_far ends are is puts =
+    let behind = counts_behind carrier bytes (texts ++ end) in
+    record {
+      bytes = bytes;
+      read = read;
+      text = with_counts carrier bytes (texts ++ end);
+      wrote = subst (PutsSome start written) (sym behind.1) (puts_longer start written (texts ++ end) behind.0 puts);
+      is_text = inr ((has_all first before now bytes so_far ends).1, is_text carrier form bytes texts end are is);
+    }
 
 pub writes_counts : (carrier : Carrier) (form : StreamForm) (first before now start written : Option (List ℕ)) (bytes texts end counts : List ℕ) → Consumes first now bytes → Consumes first before bytes → IsAtEnd before × Keeps before now
     → AreTexts form (carried_blocks carrier bytes) texts → IsEnd form (reverse (carried_blocks carrier bytes)) end → with_counts carrier bytes (texts ++ end) ≡ (texts ++ end) ++ counts
@@ -346,9 +306,9 @@ pub writes_counts : (carrier : Carrier) (form : StreamForm) (first before now st
 writes_counts carrier form first before now start written bytes texts end counts read so_far ends are is whole puts = record {
   bytes = bytes;
   read = read;
-  text = (texts ++ end) ++ counts;
-  wrote = puts;
-  is_prefix = inr ((has_all first before now bytes so_far ends).1, is_all carrier form bytes texts end counts are is whole);
+  text = with_counts carrier bytes (texts ++ end);
+  wrote = subst (PutsSome start written) (sym whole) puts;
+  is_text = inr ((has_all first before now bytes so_far ends).1, is_text carrier form bytes texts end are is);
 }
 
 -- what was kept of the bytes taken

@@ -13,7 +13,7 @@ use Rattle.stream_print.specs.Page.{PrintsSuch, Prints}
 use Rattle.stream_print.specs.Putting.{PutsSome}
 use Rattle.stream_print.specs.Sinks.{PutsSuch}
 use Rattle.stream_print.specs.Readers.{packets_text}
-use Rattle.stream_print.specs.TextLaws.{IsEnd, IsPrefixOfEnd}
+use Rattle.stream_print.specs.TextLaws.{IsEnd}
 use Rattle.stream_print.specs.declared.printer.Printer.{Printer}
 use Rattle.stream_print.specs.declared.reader.StreamReader.{StreamReader}
 use Rattle.stream_print.specs.declared.failure.StreamFailure.{StreamFailure}
@@ -56,7 +56,7 @@ ends_uncounted carrier form first before now start u v w p t r bytes small fed a
 -- the sink failed while the end was printed
 pub ends_unprinted : (carrier : Carrier) (form : StreamForm) (first before now start u v : Option (List ℕ)) (p : Printer) (r : StreamReader) (bytes : List ℕ)
     → Fed carrier form start u p r bytes → Consumes first now bytes → Consumes first before bytes → IsAtEnd before × Keeps before now
-    → PutsSuch (IsPrefixOfEnd form (reverse (carried_blocks carrier bytes))) u p.page.text v → WritesSome carrier form (between first now) (between start v)
+    → PutsSuch (IsEnd form (reverse (carried_blocks carrier bytes))) u p.page.text v → WritesSome carrier form (between first now) (between start v)
 ends_unprinted carrier form first before now start u v p r bytes fed all read end q =
     writes_prefix carrier form first before now start v bytes fed.wrote.text q.text all read end fed.wrote.are_texts q.such
     (puts_then start u v [] p.page.text fed.wrote.text q.text (fed_printed carrier form start u p r bytes fed) q.puts)

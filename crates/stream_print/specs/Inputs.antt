@@ -11,7 +11,7 @@ use Rattle.stream_print.specs.declared.carrier.Carrier.{Carrier}
 use Rattle.stream_print.specs.declared.carrier.Carrier.TheVariants.{Bare, Capture}
 use Rattle.stream_print.specs.declared.stream_form.StreamForm.{StreamForm}
 use Rattle.stream_print.specs.Putting.{PutsSome}
-use Rattle.stream_print.specs.Texts.{AreTexts, BeginTexts, IsText, IsPrefixOfText}
+use Rattle.stream_print.specs.Texts.{AreTexts, BeginTexts, IsText}
 use Rattle.stream_print.specs.Told.{Told}
 use Rattle.stream_print.specs.declared.failure.StreamFailure.{StreamFailure}
 use Rattle.stream_print.specs.declared.failure.StreamFailure.TheVariants.{BadInput, SequencesSpent}
@@ -101,15 +101,15 @@ pub record ReadsSome (carrier : Carrier) (form : StreamForm) (input out : Told) 
   pub read : Consumes input.old input.new bytes
   pub wrote : WritesTexts form out (carried_blocks carrier bytes)
 
--- some bytes were read, and a prefix of the texts of their blocks was written, or, where they are
--- all, of the whole text
+-- some bytes were read, and a prefix of a text was written: of one with which the texts of their
+-- blocks begin, or, where they are all, of the whole text
 pub record WritesSome (carrier : Carrier) (form : StreamForm) (input out : Told) : Type 0 where
   pub bytes : List ℕ
   pub read : Consumes input.old input.new bytes
   pub text : List ℕ
   pub wrote : PutsSome out.old out.new text
-  pub is_prefix : BeginTexts form (carried_blocks carrier bytes) text
-      ⊎ (ReadsAll input bytes × IsPrefixOfText carrier form bytes text)
+  pub is_text : BeginTexts form (carried_blocks carrier bytes) text
+      ⊎ (ReadsAll input bytes × IsText carrier form bytes text)
 
 -- how a stream ends; no relay comes to the last sequence, since no stream has so many messages
 abbrev pub StreamEnds : Carrier → StreamForm → ℕ → Result (Unit {0}) StreamFailure

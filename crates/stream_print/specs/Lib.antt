@@ -1,5 +1,6 @@
 pub mod Carriers
 pub mod Counting
+pub mod Followed
 pub mod Inputs
 pub mod Knowing
 pub mod Page

@@ -3,12 +3,11 @@ use Rattle.std.specs.Prelude.{◌≡◌, ◌<◌, ℕ, List, [], ◌∷◌, ◌+
 use Rattle.pitch_fields.specs.Limits.{last_sequence}
 use Rattle.unit_packets.specs.Blocks.{Block}
 use Rattle.pitch_model.specs.History.{Raw}
-use Rattle.heard_items.specs.Units.{AllHonest}
-use Rattle.feed_lines.specs.Follow.{books_of}
 use Rattle.relay_unit.specs.Sparing.{messages_heard}
 use Rattle.stream_print.specs.declared.stream_form.StreamForm.{StreamForm}
 use Rattle.stream_print.specs.declared.stream_form.StreamForm.TheVariants.{Follow, Show, Relay}
 use Rattle.stream_print.specs.declared.stream_form.StreamForm.TheVariants.{Quotes}
+use Rattle.stream_print.specs.Followed.{IsBooksText}
 use Rattle.stream_print.specs.Texts.{AreVenuesOf, texts_by}
 
 -- likewise the texts of some blocks that come after others
@@ -40,17 +39,7 @@ pub record OutrunsAmong (form : StreamForm) (before blocks : List Block) : Type 
   pub outruns : Outruns form (reverse done ++ before) block
 
 -- ---- The end of a stream
--- what `follow` prints there: for every family of venues of which the blocks before speak, the
--- books of all units; the others print nothing there
+-- what `follow` prints there are the books of all units; the others print nothing there
 abbrev pub IsEnd : StreamForm → List Block → List ℕ → Type 0
-IsEnd (Follow hold) before books =
-    (Image : List Raw → ℕ → List Raw) (Vs : ℕ → List Raw) → AllHonest Image Vs before
-    → books ≡ books_of hold Vs before
-IsEnd form before books = books ≡ []
-
--- a prefix of it
-abbrev pub IsPrefixOfEnd : StreamForm → List Block → List ℕ → Type 0
-IsPrefixOfEnd (Follow hold) before books =
-    (Image : List Raw → ℕ → List Raw) (Vs : ℕ → List Raw) → AllHonest Image Vs before
-    → (more : List ℕ) × (books_of hold Vs before ≡ books ++ more)
-IsPrefixOfEnd form before books = books ≡ []
+IsEnd (Follow hold) before text = IsBooksText hold before text
+IsEnd form before text = text ≡ []

@@ -5,12 +5,13 @@ use Rattle.unit_packets.specs.Blocks.{Block}
 use Rattle.pitch_model.specs.History.{Raw}
 use Rattle.pitch_model.specs.Image.{image}
 use Rattle.heard_items.specs.Units.{AllHonest}
-use Rattle.feed_lines.specs.Follow.{line_after, lines_after, follow_text}
+use Rattle.feed_lines.specs.Follow.{line_after}
 use Rattle.feed_lines.specs.Show.{shown_after, show_text}
 use Rattle.feed_lines.specs.Texts.{texts_after}
 use Rattle.best_quotes.specs.QuotesText.{quoted_after}
 use Rattle.relay_unit.specs.RelayText.{AreRelayVenues, relayed_after}
 use Rattle.stream_print.specs.Carriers.{carried_blocks, with_counts}
+use Rattle.stream_print.specs.Followed.{IsFollowed}
 use Rattle.stream_print.specs.declared.carrier.Carrier.{Carrier}
 use Rattle.stream_print.specs.declared.stream_form.StreamForm.{StreamForm}
 use Rattle.stream_print.specs.declared.stream_form.StreamForm.TheVariants.{Follow, Show, Relay}
@@ -48,22 +49,11 @@ BeginTexts form blocks text =
     → (more : List ℕ) × (texts_by form Vs [] blocks ≡ text ++ more)
 
 -- ---- The whole text
--- the whole text of `follow`: the lines, and books; for every family of venues of which the blocks
--- speak, the defined text; and of a capture the line of its packets
-pub record IsFollowText (carrier : Carrier) (H : ℕ) (bytes text : List ℕ) : Type 0 where
-  pub lines : (books : List ℕ) × (text
-      ≡ with_counts carrier bytes (lines_after H [] (carried_blocks carrier bytes) ++ books))
-  pub honest : (Image : List Raw → ℕ → List Raw) (Vs : ℕ → List Raw)
-      → AllHonest Image Vs (reverse (carried_blocks carrier bytes))
-      → text ≡ with_counts carrier bytes (follow_text H Vs (carried_blocks carrier bytes))
-
--- a prefix of it, with all lines
-pub record IsPrefixOfFollowText (carrier : Carrier) (H : ℕ) (bytes text : List ℕ) : Type 0 where
-  pub lines : (books : List ℕ) × (text ≡ lines_after H [] (carried_blocks carrier bytes) ++ books)
-  pub honest : (Image : List Raw → ℕ → List Raw) (Vs : ℕ → List Raw)
-      → AllHonest Image Vs (reverse (carried_blocks carrier bytes))
-      → (more : List ℕ)
-      × (with_counts carrier bytes (follow_text H Vs (carried_blocks carrier bytes)) ≡ text ++ more)
+-- the whole text of `follow`, and of a capture the line of its packets behind it
+abbrev pub IsFollowText : Carrier → ℕ → List ℕ → List ℕ → Type 0
+IsFollowText carrier H bytes text =
+    (followed : List ℕ) × (IsFollowed H (carried_blocks carrier bytes) followed
+    × (text ≡ with_counts carrier bytes followed))
 
 -- the whole text for some bytes: of a relay and of quotes for every family of venues of which the
 -- blocks speak
@@ -74,15 +64,3 @@ IsText carrier Show bytes text =
 IsText carrier form bytes text =
     (Vs : ℕ → List Raw) → AreVenuesOf form Vs (reverse (carried_blocks carrier bytes))
     → text ≡ with_counts carrier bytes (texts_by form Vs [] (carried_blocks carrier bytes))
-
--- all the texts of the blocks, and a prefix of what follows them
-abbrev pub IsPrefixOfText : Carrier → StreamForm → List ℕ → List ℕ → Type 0
-IsPrefixOfText carrier (Follow hold) bytes text = IsPrefixOfFollowText carrier hold bytes text
-IsPrefixOfText carrier Show bytes text =
-    (more : List ℕ)
-    × (with_counts carrier bytes (show_text (carried_blocks carrier bytes)) ≡ text ++ more)
-IsPrefixOfText carrier form bytes text =
-    (Vs : ℕ → List Raw) → AreVenuesOf form Vs (reverse (carried_blocks carrier bytes))
-    → (more : List ℕ)
-    × (with_counts carrier bytes (texts_by form Vs [] (carried_blocks carrier bytes))
-    ≡ text ++ more)

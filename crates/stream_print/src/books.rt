@@ -1,11 +1,9 @@
 //! The books that stand at the end of `follow`, with their orders and statuses.
 
-ghost use Rattle.std.specs.Prelude.{◌≡◌, ◌++◌, [], List, ℕ, OnOk, OnErr, Err, length};
-ghost use Rattle.unit_packets.specs.Blocks.{Block};
-ghost use Rattle.unit_clients.specs.Clients.{AreUnits, IsClient, Clients};
-ghost use Rattle.stream_print.specs.layers.Books.{IsUnitText, AreBooksBelow, AreFirstBooks};
+ghost use Rattle.std.specs.Prelude.{◌≡◌, ◌++◌, OnOk, OnErr, Err, length};
 ghost use Rattle.std.specs.List.{flat_map};
-ghost use Rattle.stream_print.specs.Sinks.{PagePrints, PagePrintsSuch, PutsPrefix, PutsPrefixSuch};
+ghost use Rattle.stream_print.specs.layers.Books.{client_text, texts_below};
+ghost use Rattle.stream_print.specs.Sinks.{PagePrints, PutsPrefix};
 ghost use Rattle.stream_print.specs.Sinks.{CountsFault};
 ghost use Rattle.feed_lines.specs.BookText.{order_line, status_line, book_orders, book_text};
 
@@ -108,12 +106,10 @@ fn print_unit<O: Sink>(
     page: &mut Page,
     out: &mut O,
 ) -> Result<(), PrintError>
-    // Whatever blocks the unit's client has heard, the book that it has by them was printed.
-    ensures printed { OnOk result ((H : ℕ) (before : List Block) → IsClient H before unit slot.now
-        → PagePrintsSuch (IsUnitText H slot.now before unit)
-        O.written out.old out.new page.old page.new) }
-    ensures err { OnErr result ((H : ℕ) (before : List Block) → IsClient H before unit slot.now
-        → PutsPrefixSuch (IsUnitText H slot.now before unit) O.written out.old out.new page.old) }
+    ensures printed { OnOk result (
+        PagePrints O.written out.old out.new page.old page.new (client_text unit slot.now)) }
+    ensures err { OnErr result (
+        PutsPrefix O.written out.old out.new (page.old.text ++ client_text unit slot.now)) }
     ensures cause { CountsFault O.faults out.old out.new (result ≡ Err PrintError.Write) }
 {
     match slot {
@@ -130,13 +126,10 @@ pub fn print_books<O: Sink>(
     out: &mut O,
 ) -> Result<(), PrintError>
     requires many { length clients.now ≡ 256 }
-    // Whatever blocks the clients have heard, the books that they have by them were printed.
-    ensures printed { OnOk result ((H : ℕ) (before : List Block) → Clients H clients.now before
-        → PagePrintsSuch (AreBooksBelow H clients.now before 256)
-        O.written out.old out.new page.old page.new) }
-    ensures err { OnErr result ((H : ℕ) (before : List Block)
-        → Clients H clients.now before → AreUnits before
-        → PutsPrefixSuch (AreFirstBooks H clients.now before) O.written out.old out.new page.old) }
+    ensures printed { OnOk result (
+        PagePrints O.written out.old out.new page.old page.new (texts_below clients.now 256)) }
+    ensures err { OnErr result (
+        PutsPrefix O.written out.old out.new (page.old.text ++ texts_below clients.now 256)) }
     ensures cause { CountsFault O.faults out.old out.new (result ≡ Err PrintError.Write) }
 {
     'units: for unit in 0..clients.len() {

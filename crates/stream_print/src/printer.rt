@@ -28,7 +28,7 @@ impl Printer {
     ghost use Rattle.stream_print.specs.Sinks.{PagePrintsSuch, PutsPrefixSuch, CountsFault};
     ghost use Rattle.stream_print.specs.Knowing.{task_form, HasPrinted};
     ghost use Rattle.stream_print.specs.Printing.{PrintsBlocks, FailsBlocks};
-    ghost use Rattle.stream_print.specs.TextLaws.{IsEnd, IsPrefixOfEnd};
+    ghost use Rattle.stream_print.specs.TextLaws.{IsEnd};
 
     /// Nothing was printed yet of what the form asks for.
     pub fn make(alloc: Global, form: StreamForm) -> Result<Printer, OutOfMemory>
@@ -78,7 +78,7 @@ impl Printer {
             → PagePrintsSuch (IsEnd (task_form self.old.task) before)
             O.written out.old out.new self.old.page self.new.page) }
         ensures err { OnErr result ((before : List Block) → HasPrinted self.old before
-            → PutsPrefixSuch (IsPrefixOfEnd (task_form self.old.task) before)
+            → PutsPrefixSuch (IsEnd (task_form self.old.task) before)
             O.written out.old out.new self.old.page) }
         ensures cause { CountsFault O.faults out.old out.new (result ≡ Err PrintError.Write) }
     {
