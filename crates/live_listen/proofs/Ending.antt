@@ -1,5 +1,5 @@
 -- How a run ends.
-use Rattle.std.proofs.Common.{◌≡◌, ℕ, Bool, true≢false, List, [], ◌∷◌, ◌++◌, length, take, drop, reverse, refl, sym, ap, ◌∙◌, subst, append_assoc, Option, Some, Result, Ok, Err}
+use Rattle.std.proofs.Common.{◌≡◌, ℕ, inl, inr, Bool, true≢false, List, [], ◌∷◌, ◌++◌, length, take, drop, reverse, refl, sym, ap, ◌∙◌, subst, append_assoc, Option, Some, Result, Ok, Err}
 use Rattle.std.specs.Result.{IsErr, IsErrAnd}
 use Rattle.std.specs.List.{flat_map, count_by}
 use Rattle.std.proofs.lemmas.List.{append-nil, take-append-drop, length-reverse}
@@ -7,14 +7,15 @@ use Rattle.pitch_io.specs.Putting.{Grows}
 use Rattle.unit_packets.specs.Blocks.{Block}
 use Rattle.unit_packets.specs.Cutting.{blocks_of}
 use Rattle.pitch_model.specs.History.{Raw}
-use Rattle.feed_lines.specs.Follow.{lines_after, books_of, follow_text}
+use Rattle.feed_lines.specs.Follow.{lines_after}
 use Rattle.stream_print.specs.Carriers.{is_faulty}
+use Rattle.stream_print.specs.Followed.{IsBooksText, IsFollowed}
 use Rattle.stream_print.specs.Knowing.{task_form, HasPrinted}
 use Rattle.stream_print.specs.Page.{Prints, PrintsSuch}
 use Rattle.stream_print.specs.Printing.{Fails, FailsBlocks}
 use Rattle.stream_print.specs.Putting.{PutsSome}
 use Rattle.stream_print.specs.Sinks.{PutsSuch}
-use Rattle.stream_print.specs.TextLaws.{AreTextsAfter, BeginTextsAfter, IsEnd, IsPrefixOfEnd}
+use Rattle.stream_print.specs.TextLaws.{AreTextsAfter, BeginTextsAfter, IsEnd}
 use Rattle.stream_print.specs.Told.{between}
 use Rattle.stream_print.specs.declared.failure.PrintError.{PrintError}
 use Rattle.stream_print.specs.declared.failure.PrintError.TheVariants as printing
@@ -50,35 +51,21 @@ prints_out a b c t x p g = subst (Grows a c) (append-nil x) (prints_whole a c []
 
 -- ---- Prefixes of the whole text
 module _ (H : ℕ) (blocks : List Block) where
-  lines : List ℕ
-  lines = lines_after H [] blocks
-
   begins_lines : (text more : List ℕ) → lines_after H [] blocks ≡ text ++ more → BeginsText H blocks text
-  begins_lines text more is = record {
-    lines = ([], (more, append-nil (lines_after H [] blocks) ∙ is));
-    honest = λ Image Vs honest.
-        let books : List ℕ = books_of H Vs (reverse blocks) in
-        (more ++ books, ap (λ (t : List ℕ). t ++ books) is ∙ append_assoc text more books);
-  }
+  begins_lines text more is = inl (more, is)
 
-  -- all lines, and a prefix of the books
-  begins_books : (text books : List ℕ) → text ≡ lines_after H [] blocks → IsPrefixOfEnd (Follow H) (reverse blocks) books → BeginsText H blocks (text ++ books)
-  begins_books text books are first = record {
-    lines = (books, ([], ap (λ (t : List ℕ). t ++ books) (sym are) ∙ sym (append-nil (text ++ books))));
-    honest = λ Image Vs honest.
-        let here = first Image Vs honest in
-        (here.0, ap (λ (t : List ℕ). t ++ books_of H Vs (reverse blocks)) (sym are) ∙ ap (λ (t : List ℕ). text ++ t) here.1 ∙ sym (append_assoc text books here.0));
-  }
+  -- all lines, and the books
+  begins_books : (text books : List ℕ) → text ≡ lines_after H [] blocks → IsBooksText H (reverse blocks) books → BeginsText H blocks (text ++ books)
+  begins_books text books are is = inr ([], record { books = books; are_books = is; text_is = append-nil (text ++ books) ∙ ap (λ (t : List ℕ). t ++ books) are })
 
   begins_less : (n : ℕ) (text : List ℕ) → BeginsText H blocks text → BeginsText H blocks (take n text)
-  begins_less n text b =
-      let all : take n text ++ drop n text ≡ text = take-append-drop n text in
-      record {
-        lines = (b.lines.0, (drop n text ++ b.lines.1.0, b.lines.1.1 ∙ ap (λ (t : List ℕ). t ++ b.lines.1.0) (sym all) ∙ append_assoc (take n text) (drop n text) b.lines.1.0));
-        honest = λ Image Vs honest.
-            let here = b.honest Image Vs honest in
-            (drop n text ++ here.0, here.1 ∙ ap (λ (t : List ℕ). t ++ here.0) (sym all) ∙ append_assoc (take n text) (drop n text) here.0);
-      }
+  begins_less n text begins = elim begins [
+    | inl lines ↦ inl (drop n text ++ lines.0, lines.1 ∙ longer lines.0)
+    | inr whole ↦ inr (drop n text ++ whole.0, subst (IsFollowed H blocks) (longer whole.0) whole.1)
+  ]
+    where
+      longer : (more : List ℕ) → text ++ more ≡ take n text ++ (drop n text ++ more)
+      longer more = ap (λ (t : List ℕ). t ++ more) (sym (take-append-drop n text)) ∙ append_assoc (take n text) (drop n text) more
 
 -- ---- Runs that end
 module _ (s : Setup) (start v : Devices) (run : List LineCall) (adds : AddsRun run start.calls v.calls) (due_each : AreDue s.lines run) (shown : HasShown start.written v.written (lines_shown s run)) where
@@ -187,11 +174,11 @@ module _ (s : Setup) (start u : Devices) (l : Listener) (run : List LineCall) (s
 
   -- ---- The books
   -- the sink failed while they were printed
-  pub ends_unbooked : (v : Devices) (e : PrintError) → v.calls ≡ u.calls → PutsSuch (IsPrefixOfEnd (task_form l.printer.task) (reverse (heard_of s run))) u.written l.printer.page.text v.written
+  pub ends_unbooked : (v : Devices) (e : PrintError) → v.calls ≡ u.calls → PutsSuch (IsEnd (task_form l.printer.task) (reverse (heard_of s run))) u.written l.printer.page.text v.written
       → ListenEnds s (Err (unprinted e)) start.calls v.calls (between start.written v.written)
   ends_unbooked v e same some =
       ends_begun s start v run (subst (AddsRun run start.calls) (sym same) st.adds) st.due_each (shown_then v.written (l.printer.page.text ++ some.text) some.puts) (text_now ++ some.text) e
-      (begins_books s.hold (heard_of s run) text_now some.text lines_now (subst (λ (f : StreamForm). IsPrefixOfEnd f (reverse (heard_of s run)) some.text) form_now some.such))
+      (begins_books s.hold (heard_of s run) text_now some.text lines_now (subst (λ (f : StreamForm). IsEnd f (reverse (heard_of s run)) some.text) form_now some.such))
       (puts_then start.written u.written v.written [] l.printer.page.text text_now some.text printed_now some.puts)
 
   module _ (w : Option (List ℕ)) (page : List ℕ) (printed : PrintsSuch (IsEnd (task_form l.printer.task) (reverse (heard_of s run))) u.written l.printer.page.text w page) where
@@ -210,7 +197,7 @@ module _ (s : Setup) (start u : Devices) (l : Listener) (run : List LineCall) (s
     pub ends_unwritten : (v : Devices) (e : PrintError) → v.calls ≡ u.calls → PutsSome w v.written page → ListenEnds s (Err (unprinted e)) start.calls v.calls (between start.written v.written)
     ends_unwritten v e same puts =
         ends_begun s start v run (subst (AddsRun run start.calls) (sym same) st.adds) st.due_each (shown_whole v.written (take puts.count page) puts.grows) (text_now ++ printed.text) e
-        (begins_books s.hold (heard_of s run) text_now printed.text lines_now (λ Image Vs honest. ([], sym (books_are Image Vs honest) ∙ sym (append-nil printed.text))))
+        (begins_books s.hold (heard_of s run) text_now printed.text lines_now books_are)
         (puts_after start.written w v.written [] page (text_now ++ printed.text) whole puts)
 
     -- all was written
@@ -227,11 +214,7 @@ module _ (s : Setup) (start u : Devices) (l : Listener) (run : List LineCall) (s
       };
       is_end = record {
         over = over;
-        text_is = record {
-          lines = (printed.text, ap (λ (t : List ℕ). t ++ printed.text) lines_now);
-          honest = λ Image Vs honest.
-              ap (λ (t : List ℕ). t ++ printed.text) lines_now ∙ ap (λ (t : List ℕ). lines_after s.hold [] (heard_of s run) ++ t) (books_are Image Vs honest);
-        };
+        text_is = record { books = printed.text; are_books = books_are; text_is = ap (λ (t : List ℕ). t ++ printed.text) lines_now };
         counts_are = same_counts s.units (datagrams_of run) l.datagrams l.faulty l.printer.number l.stray st.datagrams_are st.faulty_are (known_now.number_is ∙ length-reverse (heard_of s run)) st.stray_are;
       };
     }
@@ -258,10 +241,7 @@ steps_same s (Err e) error start now l is ends = subst (λ (x : ListenError). Li
 
 -- ---- Before the first call
 begins_none : (H : ℕ) (blocks : List Block) → BeginsText H blocks []
-begins_none H blocks = record {
-  lines = ([], (lines_after H [] blocks ++ [], refl));
-  honest = λ Image Vs honest. (follow_text H Vs blocks, refl);
-}
+begins_none H blocks = inl (lines_after H [] blocks, refl)
 
 pub ends_none : (s : Setup) (calls : Option (List LineCall)) (w : Option (List ℕ)) → ListenEnds s (Err errors.OutOfMemory) calls calls (between w w)
 ends_none s calls w = record {

@@ -1,11 +1,10 @@
 -- How a listener ends, and what it has written by then.
-use Rattle.std.specs.Prelude.{◌≡◌, ◌≤◌, ℕ, List, [], ◌∷◌, ◌++◌, Option, None, Some, reverse}
-use Rattle.std.specs.Prelude.{Result, Ok, Err}
+use Rattle.std.specs.Prelude.{◌≡◌, ◌≤◌, ℕ, List, [], ◌∷◌, ◌++◌, Option, None, Some}
+use Rattle.std.specs.Prelude.{Result, Ok, Err, ◌⊎◌}
 use Rattle.pitch_io.specs.Putting.{Grows}
 use Rattle.unit_packets.specs.Blocks.{Block}
-use Rattle.pitch_model.specs.History.{Raw}
-use Rattle.heard_items.specs.Units.{AllHonest}
-use Rattle.feed_lines.specs.Follow.{lines_after, follow_text}
+use Rattle.feed_lines.specs.Follow.{lines_after}
+use Rattle.stream_print.specs.Followed.{IsFollowed}
 use Rattle.stream_print.specs.Told.{Told}
 use Rattle.live_net.specs.LineCalls.{LineCall, Wait, Receive}
 use Rattle.live_net.specs.declared.net.Woken.TheVariants as woken
@@ -56,24 +55,15 @@ pub record IsRun (s : Setup) (calls calls' : Option (List LineCall)) (out : Told
   pub writes : Grows out.old out.new text
   pub shows : (more : List ℕ) × Grows out.old out.new (lines_shown s run ++ more)
 
--- the whole text: a line for each block, and then books; for every family of venues of which the
--- blocks speak, the text of `follow`, which has the book of exactly each unit's first n messages
-pub record IsWholeText (H : ℕ) (blocks : List Block) (text : List ℕ) : Type 0 where
-  pub lines : (books : List ℕ) × (text ≡ lines_after H [] blocks ++ books)
-  pub honest : (Image : List Raw → ℕ → List Raw) (Vs : ℕ → List Raw)
-      → AllHonest Image Vs (reverse blocks) → text ≡ follow_text H Vs blocks
-
 -- the lines of all blocks, and no book
 abbrev pub AreLines : ℕ → List Block → List ℕ → Type 0
 AreLines H blocks text = text ≡ lines_after H [] blocks
 
--- a prefix of the whole text
-pub record BeginsText (H : ℕ) (blocks : List Block) (text : List ℕ) : Type 0 where
-  pub lines : (books : List ℕ)
-      × ((more : List ℕ) × (lines_after H [] blocks ++ books ≡ text ++ more))
-  pub honest : (Image : List Raw → ℕ → List Raw) (Vs : ℕ → List Raw)
-      → AllHonest Image Vs (reverse blocks)
-      → (more : List ℕ) × (follow_text H Vs blocks ≡ text ++ more)
+-- a prefix of the lines, or of the whole text, in which the books of all units follow them
+abbrev pub BeginsText : ℕ → List Block → List ℕ → Type 0
+BeginsText H blocks text =
+    ((more : List ℕ) × (lines_after H [] blocks ≡ text ++ more))
+    ⊎ ((more : List ℕ) × IsFollowed H blocks (text ++ more))
 
 -- the last call was a wait that was over; a call that failed
 abbrev pub IsOver : List LineCall → Type 0
@@ -85,10 +75,11 @@ HasFailed (Wait more woken.Failed ∷ before) = Unit {0}
 HasFailed (Receive line room bytes received.Failed ∷ before) = Unit {0}
 HasFailed run = ⊥
 
--- at the end the whole text was written, and what came was counted
+-- at the end the whole text of `follow` was written, with the books of all units, and what came was
+-- counted
 pub record IsDone (s : Setup) (counts : Counts) (run : List LineCall) (text : List ℕ) : Type 0 where
   pub over : IsOver run
-  pub text_is : IsWholeText s.hold (heard_of s run) text
+  pub text_is : IsFollowed s.hold (heard_of s run) text
   pub counts_are : counts ≡ counts_of s.units (datagrams_of run)
 
 -- the net failed: the lines of all blocks that were heard were written
