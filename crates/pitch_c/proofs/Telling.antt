@@ -14,4 +14,4 @@ module _ (units : Units) (unit : ℕ) (client : UnitClient) (at : slice_get unit
 
   -- it keeps to its venue's messages
   pub keeps_there : (Image : List Raw → ℕ → List Raw) (Vs : ℕ → List Raw) → AllHonest Image Vs before → Keeps client (Vs unit)
-  keeps_there Image Vs honest = (h.keep Image Vs honest).each unit (Some client) at
+  keeps_there Image Vs honest = h.keep.each unit (Some client) at Image (Vs unit) (honest unit)

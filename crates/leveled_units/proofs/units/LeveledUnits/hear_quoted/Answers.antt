@@ -30,7 +30,7 @@ pub returns-clause-quotes : goal.returns-clause-quotes
 returns-clause-quotes c = λ told. rw (← c.self.view_is) (λ before Image Vs heard honest.
     let block = c.args.block.now in
     let was = c.place_of.result.now in
-    let kept = (heard.keep Image Vs (all_honest_before Image Vs block before honest)).each block.unit was c.place_of.ensures.there in
+    let kept = heard.keep.each block.unit was c.place_of.ensures.there Image (Vs block.unit) (all_honest_before Image Vs block before honest block.unit) in
     rw c.limit-limit.ensures.value at c.in_ok-heard.ensures.quotes told Image (Vs block.unit) before block.unit (heard.clients.each block.unit was c.place_of.ensures.there)
     (subst (Honest Image (Vs block.unit)) (history_same block before) (honest block.unit)) kept)
 

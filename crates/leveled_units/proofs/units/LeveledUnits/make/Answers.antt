@@ -1,5 +1,5 @@
 use Rattle.std.proofs.Common.{[], refl, sym, true≢false}
-use Rattle.unit_clients.specs.Clients.{IsClient, KeepsTo}
+use Rattle.unit_clients.specs.Clients.{IsClient, KeepsToVenues}
 use Rattle.unit_clients.proofs.Placing.{each_empty}
 use Rattle.leveled_units.proofs.units.LeveledUnits.make.Goals as goal
 
@@ -10,5 +10,5 @@ returns-clause-heard c =
     record {
       clients = each_empty (IsClient table.limit []) table.places none (λ unit. refl);
       named = λ unit named. absurd (true≢false (sym named));
-      keep = λ Image Vs honest. each_empty (λ unit place. KeepsTo (Vs unit) place) table.places none (λ unit. tt);
+      keep = each_empty (KeepsToVenues []) table.places none (λ unit Image V honest. tt);
     }
