@@ -1,20 +1,22 @@
 -- Worked examples of what is printed of a unit and of two, computed by the definitions. What came
 -- stands newest first.
-use Rattle.std.proofs.Common.{◌≡◌, ℕ, true, false, List, [], ◌∷◌, ◌++◌, refl, codes}
+use Rattle.std.proofs.Common.{◌≡◌, ℕ, true, false, List, [], ◌∷◌, ◌++◌, refl, sym, ap, ◌∙◌, arith, codes}
 use Rattle.std.specs.Fmt.{digits}
 use Rattle.unit_packets.specs.Blocks.{Block}
 use Rattle.unit_packets.specs.Cutting.{blocks_of, blocks_by, rest_of, rest_by}
 use Rattle.unit_packets.specs.Judging.{judge, messages_end}
 use Rattle.pitch_messages.specs.Raw.{raws_of}
 use Rattle.pitch_messages.specs.Session.{session_reads}
+use Rattle.pitch_model.specs.Book.{Book, book_after}
 use Rattle.pitch_model.specs.Reach.{reach_of, held_count}
 use Rattle.session_ends.specs.Items.{stream_items}
+use Rattle.feed_lines.specs.BookText.{book_text}
 use Rattle.feed_lines.specs.Follow.{block_line}
 use Rattle.feed_lines.specs.Show.{number_field}
 use Rattle.stream_print.specs.Rising.{named_below}
 use Rattle.client_end.specs.Came.{Came, EndSetup, Heard, SpinCut, SpinMade, SpinTook, Second, end_history}
 use Rattle.sending_end.specs.declared.session.Session.TheVariants.{Proxy, SpinServer}
-use Rattle.live_units.specs.Coming.{LiveSetup, UnitCame, came_to, has_book, has_unit, history_at, live_lines, passed_of, stands_at, to_unit, with_blocks, with_came, with_datagram, with_loss}
+use Rattle.live_units.specs.Coming.{LiveSetup, UnitCame, AreBooksBelow, IsHonestAt, came_to, has_book, has_unit, history_at, live_lines, passed_of, stands_at, to_unit, with_blocks, with_came, with_datagram, with_loss}
 use Rattle.live_units.specs.Ended.{ends_of, has_ended, have_ended, is_ended}
 use Rattle.live_units.specs.LiveText.{came_text, image_line, is_told_of}
 use Rattle.live_units.specs.Units.{waits_then}
@@ -114,6 +116,30 @@ by_rising_number = refl
 of_silence_there_is_none : has_book both [] 7 ≡ false
 unfolding reach_of
 of_silence_there_is_none = refl
+
+-- ---- A unit that contradicts itself
+-- unit 7 has two different messages of sequence 1, and unit 2 has one
+abbrev one : List ℕ
+one = 2 ∷ 1 ∷ []
+
+abbrev another : List ℕ
+another = 2 ∷ 2 ∷ []
+
+abbrev first_of : ℕ → List ℕ → Block
+first_of unit raw = record { unit = unit; sequence = 1; raws = raw ∷ [] }
+
+abbrev contradictory : List UnitCame
+contradictory = with_blocks both (first_of 7 one ∷ first_of 2 one ∷ first_of 7 another ∷ []) []
+
+no_venue_is_of_both : (V : List (List ℕ)) → IsHonestAt both contradictory 7 V → ⊥
+no_venue_is_of_both V (bytes, honest) = let both_are = sym honest.0 ∙ honest.1.0 in cc
+
+-- the book of unit 2 is that of its message all the same
+the_other_units_book_stands : (text : List ℕ) → AreBooksBelow 8 both contradictory text → (book : Book) × (text ≡ book_text 2 1 (book_after (one ∷ [])) ++ (book_text 7 1 book ++ []))
+unfolding reach_of held_count named_below
+the_other_units_book_stands text is =
+    let two : is.books 2 ≡ book_after (one ∷ []) = is.right 2 (omega arith) refl (one ∷ []) (((omega arith, (omega arith, tt)), tt), (refl, tt)) in
+    (is.books 7, is.text_is ∙ ap (λ (b : Book). book_text 2 1 b ++ (book_text 7 1 (is.books 7) ++ [])) two)
 
 -- ---- A datagram
 -- heartbeats of units 7 and 3, and a byte behind them, which no block has

@@ -1,14 +1,17 @@
 -- What comes to the units of a live client, and what is printed of it. What came stands newest
 -- first.
 use Rattle.std.specs.Prelude.{◌≡◌, ℕ, ◌+◌, ◌==◌, Bool, true, false, ◌&&◌, not, List, [], ◌∷◌}
-use Rattle.std.specs.Prelude.{◌++◌, ◌<◌, ◌^◌, is_some, length, if◌then◌else◌}
+use Rattle.std.specs.Prelude.{◌++◌, ◌<◌, ◌≤◌, ◌^◌, is_some, length, take, if◌then◌else◌}
 use Rattle.std.specs.List.{AllByRecursion, count_by, flat_map, list_any}
 use Rattle.pitch_fields.specs.Fields.{AreBytes}
 use Rattle.unit_packets.specs.Blocks.{Block}
 use Rattle.unit_packets.specs.Cutting.{blocks_of, rest_of}
+use Rattle.pitch_model.specs.Book.{Book, book_after}
 use Rattle.pitch_model.specs.History.{Entry, Raw}
 use Rattle.pitch_model.specs.Honest.{Honest}
 use Rattle.pitch_model.specs.Image.{image}
+use Rattle.pitch_model.specs.Reach.{reach}
+use Rattle.feed_lines.specs.BookText.{book_text}
 use Rattle.session_ends.specs.declared.account.Account.{Account}
 use Rattle.client_end.specs.Came.{Came, EndSetup, EndState, GrpCut, Heard, SpinCut}
 use Rattle.client_end.specs.Came.{end_after, end_history}
@@ -124,32 +127,56 @@ live_lines s (next ∷ before) = live_lines s before
 abbrev pub has_book : LiveSetup → List UnitCame → ℕ → Bool
 has_book s came unit = has_unit s unit && is_told_of (end_setup s unit) (came_to unit came)
 
+-- what a unit's client heard speaks of these messages of its venue alone
+abbrev pub IsHonestAt : LiveSetup → List UnitCame → ℕ → List Raw → Type 0
+IsHonestAt s came unit V =
+    AllByRecursion AreBytes V × Honest image V (history_at s unit came)
+
+-- for each venue of which a unit's history speaks honestly, the book is what the first of its
+-- messages leave, up to the reach
+abbrev pub IsBookAt : LiveSetup → List UnitCame → ℕ → Book → Type 0
+IsBookAt s came unit book =
+    (V : List Raw) → IsHonestAt s came unit V
+    → book ≡ book_after (take (reach s.hold (history_at s unit came)) V)
+
+-- the text of a unit's book, at its reach
+abbrev pub text_at_reach : LiveSetup → List UnitCame → (ℕ → Book) → ℕ → List ℕ
+text_at_reach s came books unit =
+    book_text unit (reach s.hold (history_at s unit came)) (books unit)
+
+-- the books of the units below a number that have one, by rising number, each of which rests on
+-- what its unit's client heard alone
+pub record AreBooksBelow (count : ℕ) (s : LiveSetup) (came : List UnitCame) (text : List ℕ)
+    : Type 0 where
+  pub books : ℕ → Book
+  pub right : (unit : ℕ) → unit < count → has_book s came unit ≡ true
+      → IsBookAt s came unit (books unit)
+  pub text_is : text
+      ≡ flat_map (text_at_reach s came books) (named_below (has_book s came) count)
+
+-- ---- The whole text
+-- all lines, and then the books of all units, each of which is named by one byte
+pub record IsLiveText (s : LiveSetup) (came : List UnitCame) (text : List ℕ) : Type 0 where
+  pub books : List ℕ
+  pub are_books : AreBooksBelow 256 s came books
+  pub text_is : text ≡ live_lines s came ++ books
+
+-- a prefix of it: of all lines and the books of the units below a number
+pub record BeginsLiveText (s : LiveSetup) (came : List UnitCame) (text : List ℕ) : Type 0 where
+  pub count : ℕ
+  pub within : count ≤ 256
+  pub books : List ℕ
+  pub are_books : AreBooksBelow count s came books
+  pub begins : (more : List ℕ) × (live_lines s came ++ books ≡ text ++ more)
+
+-- ---- Where each unit's history speaks honestly
+-- `Vs` gives the messages of each unit's venue, and what its client heard speaks of no others
+abbrev pub AreHonest : LiveSetup → (ℕ → List Raw) → List UnitCame → Type 0
+AreHonest s Vs came = (unit : ℕ) → IsHonestAt s came unit (Vs unit)
+
+-- then the books are those of their venues
 abbrev pub book_at : LiveSetup → (ℕ → List Raw) → List UnitCame → ℕ → List ℕ
 book_at s Vs came unit = end_book (end_setup s unit) (Vs unit) (came_to unit came)
 
--- the books of the units below a number that have one, by rising number
-abbrev pub books_below : ℕ → LiveSetup → (ℕ → List Raw) → List UnitCame → List ℕ
-books_below count s Vs came = flat_map (book_at s Vs came) (named_below (has_book s came) count)
-
--- of all units, each of which is named by one byte
 abbrev pub live_books : LiveSetup → (ℕ → List Raw) → List UnitCame → List ℕ
-live_books s Vs came = books_below 256 s Vs came
-
--- what each unit's client heard speaks of the messages of its venue alone
-abbrev pub AreHonest : LiveSetup → (ℕ → List Raw) → List UnitCame → Type 0
-AreHonest s Vs came = (unit : ℕ)
-    → AllByRecursion AreBytes (Vs unit) × Honest image (Vs unit) (history_at s unit came)
-
--- ---- The whole text
--- all lines, and then books; for every family of venues of which each unit's history speaks
--- honestly, the books of exactly each unit's first n messages, n its reach
-pub record IsLiveText (s : LiveSetup) (came : List UnitCame) (text : List ℕ) : Type 0 where
-  pub lines : (books : List ℕ) × (text ≡ live_lines s came ++ books)
-  pub honest : (Vs : ℕ → List Raw) → AreHonest s Vs came
-      → text ≡ live_lines s came ++ live_books s Vs came
-
--- a prefix of it
-pub record BeginsLiveText (s : LiveSetup) (came : List UnitCame) (text : List ℕ) : Type 0 where
-  pub lines : (books : List ℕ) × ((more : List ℕ) × (live_lines s came ++ books ≡ text ++ more))
-  pub honest : (Vs : ℕ → List Raw) → AreHonest s Vs came
-      → (more : List ℕ) × (live_lines s came ++ live_books s Vs came ≡ text ++ more)
+live_books s Vs came = flat_map (book_at s Vs came) (named_below (has_book s came) 256)

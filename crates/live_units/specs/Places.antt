@@ -2,15 +2,17 @@
 use Rattle.std.specs.Prelude.{◌≡◌, ℕ, true, false, List, [], Option, None, Some, Result, Ok}
 use Rattle.std.specs.Prelude.{if◌then◌else◌}
 use Rattle.unit_packets.specs.Blocks.{Block}
-use Rattle.pitch_model.specs.History.{Raw}
+use Rattle.pitch_model.specs.Book.{Book}
+use Rattle.pitch_model.specs.Reach.{reach}
+use Rattle.feed_lines.specs.BookText.{book_text}
 use Rattle.feed_lines.specs.Follow.{line_at}
 use Rattle.client_end.specs.Came.{Heard, end_history}
 use Rattle.sending_end.specs.Stands.{WaitsStill, waiting}
 use Rattle.sending_end.specs.declared.session.Session.{Session}
 use Rattle.stream_print.specs.Page.{Prints}
 use Rattle.stream_print.specs.declared.putting.PutFailed.{PutFailed}
-use Rattle.live_units.specs.Coming.{LiveSetup, UnitCame, AreHonest, book_at, came_to, end_setup}
-use Rattle.live_units.specs.Coming.{has_book, has_unit}
+use Rattle.live_units.specs.Coming.{LiveSetup, UnitCame, IsBookAt, came_to, end_setup}
+use Rattle.live_units.specs.Coming.{has_book, has_unit, history_at}
 use Rattle.live_units.specs.Standing.{ComesTo, OfUnit, TakesPiece, UnitStands}
 use Rattle.live_units.specs.declared.unit.LiveUnit.{LiveUnit}
 use Rattle.live_units.specs.declared.unit.Taken.{Taken}
@@ -59,8 +61,10 @@ pub record IsNewAt (s : LiveSetup) (unit : ℕ) (place : Option LiveUnit) : Type
   pub stands : IsUnitAt s [] unit place
   pub waits : (session : Session) → waits_at place session ≡ []
 
--- the text of a unit's book, where it has one to print, by each family of venues of which each
--- unit's history speaks honestly
-abbrev pub IsTextAt : LiveSetup → List UnitCame → ℕ → List ℕ → Type 0
-IsTextAt s came unit text = (Vs : ℕ → List Raw) → AreHonest s Vs came
-    → text ≡ (if has_book s came unit then book_at s Vs came unit else [])
+-- the text of a unit's book, where it has one to print
+pub record IsTextAt (s : LiveSetup) (came : List UnitCame) (unit : ℕ) (text : List ℕ)
+    : Type 0 where
+  pub book : Book
+  pub right : has_book s came unit ≡ true → IsBookAt s came unit book
+  pub text_is : text ≡ (if has_book s came unit
+      then book_text unit (reach s.hold (history_at s unit came)) book else [])

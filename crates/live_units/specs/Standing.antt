@@ -1,11 +1,14 @@
 -- A unit of a live client, and what came to it.
 use Rattle.std.specs.Prelude.{◌≡◌, ◌≢◌, ◌⊎◌, ℕ, List, [], ◌∷◌, ◌++◌, Option, Result, OnOk, OnErr}
-use Rattle.std.specs.Prelude.{IfOk, None, Some, drop, min, if◌then◌else◌}
+use Rattle.std.specs.Prelude.{IfOk, None, Some, drop, min, take, if◌then◌else◌}
 use Rattle.std.specs.List.{AllByRecursion, list_any}
 use Rattle.pitch_fields.specs.Fields.{AreBytes}
+use Rattle.pitch_model.specs.Book.{Book, book_after}
 use Rattle.pitch_model.specs.History.{Raw}
 use Rattle.pitch_model.specs.Honest.{Honest}
 use Rattle.pitch_model.specs.Image.{image}
+use Rattle.pitch_model.specs.Reach.{reach}
+use Rattle.feed_lines.specs.BookText.{book_text}
 use Rattle.client_end.specs.Came.{Came, EndSetup, GrpCut, SpinCut, Second, end_history}
 use Rattle.sending_end.specs.Waiting.{lost, took}
 use Rattle.sending_end.specs.Stands.{NoneWaits, Passes, SendingStands, WaitsStill}
@@ -15,7 +18,7 @@ use Rattle.stream_print.specs.Page.{Prints}
 use Rattle.stream_print.specs.Putting.{PutsSome}
 use Rattle.stream_print.specs.declared.putting.PutFailed.{PutFailed}
 use Rattle.live_units.specs.Ended.{ends_of}
-use Rattle.live_units.specs.LiveText.{came_text, end_book, is_block, is_told_of}
+use Rattle.live_units.specs.LiveText.{came_text, is_block, is_told_of}
 use Rattle.live_units.specs.declared.unit.LiveUnit.{LiveUnit}
 use Rattle.live_units.specs.declared.unit.Taken.{Taken}
 use Rattle.live_units.specs.declared.unit.Taken.TheVariants.{Whole, Lost}
@@ -89,8 +92,11 @@ pub record TakesPiece (u u' : LiveUnit) (session : Session) (piece : List ℕ)
   pub fails : OnErr result (OfUnit u (λ s before. (k : ℕ)
       → PutsSome w w' (page ++ came_text s k came before)))
 
--- the book of a unit that was told of, by each venue of which its history speaks honestly
-abbrev pub IsBookText : EndSetup → List Came → List ℕ → Type 0
-IsBookText s before text = (V : List Raw) → AllByRecursion AreBytes V
-    → Honest image V (end_history s before)
-    → text ≡ (if is_told_of s before then end_book s V before else [])
+-- the text of the book of a unit that was told of, at its reach; for each venue of which its
+-- history speaks honestly, the book is what the first messages leave, up to the reach
+pub record IsBookText (s : EndSetup) (before : List Came) (text : List ℕ) : Type 0 where
+  pub book : Book
+  pub right : (V : List Raw) → AllByRecursion AreBytes V → Honest image V (end_history s before)
+      → book ≡ book_after (take (reach s.hold (end_history s before)) V)
+  pub text_is : text ≡ (if is_told_of s before
+      then book_text s.unit (reach s.hold (end_history s before)) book else [])

@@ -1,9 +1,8 @@
 -- All units of a live client, and what came to them.
-use Rattle.std.specs.Prelude.{◌≡◌, ◌≢◌, ◌⊎◌, ℕ, List, [], ◌++◌, Option, Result, Ok, Err}
+use Rattle.std.specs.Prelude.{◌≡◌, ◌≢◌, ◌≤◌, ◌⊎◌, ℕ, List, [], Option, Result, Ok, Err}
 use Rattle.std.specs.Prelude.{slice_get, drop, if◌then◌else◌}
 use Rattle.std.specs.Option.{option_flatten}
 use Rattle.pitch_io.specs.Putting.{Grows}
-use Rattle.pitch_model.specs.History.{Raw}
 use Rattle.client_end.specs.Came.{Came, Second}
 use Rattle.sending_end.specs.Waiting.{waits_after}
 use Rattle.sending_end.specs.declared.session.Session.{Session}
@@ -11,8 +10,8 @@ use Rattle.stream_print.specs.Page.{Prints}
 use Rattle.stream_print.specs.Putting.{PutsSome}
 use Rattle.stream_print.specs.declared.putting.PutFailed.{PutFailed}
 use Rattle.unit_clients.specs.Tables.{AtEach}
-use Rattle.live_units.specs.Coming.{LiveSetup, UnitCame, AreHonest, BeginsLiveText, IsLiveText}
-use Rattle.live_units.specs.Coming.{block_count, books_below, end_setup, has_unit, live_books}
+use Rattle.live_units.specs.Coming.{LiveSetup, UnitCame, AreBooksBelow, BeginsLiveText, IsLiveText}
+use Rattle.live_units.specs.Coming.{block_count, end_setup, has_unit}
 use Rattle.live_units.specs.Coming.{live_lines, state_at, to_unit, with_came, with_loss}
 use Rattle.live_units.specs.Places.{IsUnitAt, waits_at}
 use Rattle.live_units.specs.Standing.{IsTaken}
@@ -119,14 +118,9 @@ pub record SendsAt (l l' : LiveUnits) (unit : ℕ) (session : Session) (count : 
       → waiting_at l' other that ≡ waiting_at l other that
 
 -- ---- The end
--- the books of the units below a number, and a prefix of those of all units
-abbrev pub AreBooksTo : ℕ → LiveSetup → List UnitCame → List ℕ → Type 0
-AreBooksTo count s came text =
-    (Vs : ℕ → List Raw) → AreHonest s Vs came → text ≡ books_below count s Vs came
-
-abbrev pub BeginBooks : LiveSetup → List UnitCame → List ℕ → Type 0
-BeginBooks s came text = (Vs : ℕ → List Raw) → AreHonest s Vs came
-    → (more : List ℕ) × (live_books s Vs came ≡ text ++ more)
+-- the books of the units below some number
+abbrev pub AreFirstBooks : LiveSetup → List UnitCame → List ℕ → Type 0
+AreFirstBooks s came text = (count : ℕ) × ((count ≤ 256) × AreBooksBelow count s came text)
 
 -- by the answer, the whole text was written from the start, or a prefix of it
 abbrev pub LiveEnds : LiveSetup → List UnitCame → Option (List ℕ) → Option (List ℕ)

@@ -8,12 +8,13 @@ ghost use Rattle.sending_end.specs.Waiting.{made, ended};
 ghost use Rattle.stream_print.specs.Putting.{PutsSome};
 ghost use Rattle.stream_print.specs.Sinks.{PagePrintsSuch, PutsPrefixSuch, CountsFault};
 ghost use Rattle.unit_clients.specs.Tables.{AtEach};
-ghost use Rattle.live_units.specs.Coming.{LiveSetup, UnitCame, HasBeatsAlone, StandsNone};
+ghost use Rattle.live_units.specs.Coming.{LiveSetup, UnitCame, AreBooksBelow, HasBeatsAlone};
+ghost use Rattle.live_units.specs.Coming.{StandsNone};
 ghost use Rattle.live_units.specs.Coming.{has_unit, live_lines, passed_of, stands_at, to_unit};
 ghost use Rattle.live_units.specs.Coming.{with_came, with_datagram};
 ghost use Rattle.live_units.specs.Ended.{has_ended};
 ghost use Rattle.live_units.specs.Places.{IsNewAt, IsUnitAt};
-ghost use Rattle.live_units.specs.Units.{AreBooksTo, BeginBooks, OfLive, LiveStands, LiveEnds};
+ghost use Rattle.live_units.specs.Units.{AreFirstBooks, OfLive, LiveStands, LiveEnds};
 ghost use Rattle.live_units.specs.Units.{AllWait, PassesAt, StayAll, LosesAt, TakesBytes, SendsAt};
 ghost use Rattle.live_units.specs.Units.{HasGrown, NoneWaitAtAll, waiting_at};
 
@@ -69,10 +70,10 @@ fn print_books<O: Sink>(
     requires many { length places.now ≡ 256 }
     // Whatever came to the units, the books that they have by that were printed.
     ensures printed { OnOk result ((s : LiveSetup) (came : List UnitCame)
-        → AtEach (IsUnitAt s came) places.now → PagePrintsSuch (AreBooksTo 256 s came)
+        → AtEach (IsUnitAt s came) places.now → PagePrintsSuch (AreBooksBelow 256 s came)
         O.written out.old out.new page.old page.new) }
     ensures err { OnErr result ((s : LiveSetup) (came : List UnitCame)
-        → AtEach (IsUnitAt s came) places.now → PutsPrefixSuch (BeginBooks s came)
+        → AtEach (IsUnitAt s came) places.now → PutsPrefixSuch (AreFirstBooks s came)
         O.written out.old out.new page.old) }
     ensures cause { CountsFault O.faults out.old out.new (result ≡ Err PrintError.Write) }
 {

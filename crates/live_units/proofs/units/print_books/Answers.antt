@@ -5,7 +5,7 @@ use Rattle.stream_print.specs.Sinks.{PutsSuch}
 use Rattle.unit_clients.specs.Tables.{AtEach}
 use Rattle.live_units.specs.Coming.{LiveSetup, UnitCame}
 use Rattle.live_units.specs.Places.{IsUnitAt}
-use Rattle.live_units.specs.Units.{BeginBooks}
+use Rattle.live_units.specs.Units.{AreFirstBooks}
 use Rattle.live_units.specs.declared.unit.LiveUnit.{LiveUnit}
 use Rattle.live_units.proofs.Books.{books_start, books_more, books_fail}
 use Rattle.live_units.proofs.units.print_books.Goals as goal
@@ -22,7 +22,7 @@ returns-in_err-print_at-clause-err g c =
     let many = c.requires.many in
     let lt : c.units.unit < length places = search rules in
     let at = slice_get_read places (length places) c.units.unit c.index-places-unit.result refl lt c.index-places-unit.is in
-    on_err ((s : LiveSetup) (came : List UnitCame) → AtEach (IsUnitAt s came) places → PutsSuch (BeginBooks s came) (g.O.Sink.written c.args.out.now) c.args.page.now.text (g.O.Sink.written c.print_at.new.out)) _
+    on_err ((s : LiveSetup) (came : List UnitCame) → AtEach (IsUnitAt s came) places → PutsSuch (AreFirstBooks s came) (g.O.Sink.written c.args.out.now) c.args.page.now.text (g.O.Sink.written c.print_at.new.out)) _
     (λ s came stands. books_fail s came c.units.unit (g.O.Sink.written c.args.out.now) (g.O.Sink.written c.units.out) (g.O.Sink.written c.print_at.new.out) c.args.page.now.text c.units.page.text
     (c.units.invariant.printed s came stands) (omega arith) (c.in_err-print_at.ensures.err s came c.units.unit (stands.each c.units.unit c.index-places-unit.result at)))
 

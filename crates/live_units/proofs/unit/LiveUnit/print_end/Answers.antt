@@ -1,10 +1,15 @@
-use Rattle.std.proofs.Common.{rules, ◌≡◌, true, sym, ◌∙◌}
+use Rattle.std.proofs.Common.{rules, ◌≡◌, true, false, sym, ◌∙◌}
 use Rattle.pitch_model.proofs.Results.{on_ok_map, on_err_map}
 use Rattle.stream_print.specs.Page.{PrintsSuch}
 use Rattle.stream_print.specs.Sinks.{PutsSuch}
 use Rattle.live_units.specs.Standing.{IsBookText, OfUnit}
-use Rattle.live_units.proofs.Booking.{has_book, book_begun}
+use Rattle.live_units.proofs.Booking.{no_book, has_book, book_begun}
 use Rattle.live_units.proofs.unit.LiveUnit.print_end.Goals as goal
+
+pub returns-then-not-is_told_of-clause-printed : goal.returns-then-not-is_told_of-clause-printed
+returns-then-not-is_told_of-clause-printed g c = λ s before is.
+    let untold : c.is_told_of.result ≡ false = search rules in
+    no_book s before (sym (c.is_told_of.ensures s before is) ∙ untold) (g.O.Sink.written c.args.out.now) c.args.page.now.text
 
 pub returns-clause-printed : goal.returns-clause-printed
 returns-clause-printed g c =
