@@ -16,7 +16,7 @@ use Rattle.line_copies.specs.Standing.{HaveKept}
 use Rattle.line_copies.specs.declared.lines.LineCopies.{LineCopies}
 use Rattle.line_copies.proofs.Differing.{block_differs, differ_after}
 use Rattle.line_copies.proofs.Venues.{are_of_no_venue, lines_are_as_honest}
-use Rattle.live_units.specs.Coming.{AreHonest, LiveSetup, UnitCame, came_to, end_setup, has_unit, to_unit, with_blocks, with_came, with_datagram}
+use Rattle.live_units.specs.Coming.{IsHonestAt, LiveSetup, UnitCame, came_to, end_setup, has_unit, to_unit, with_blocks, with_came, with_datagram}
 use Rattle.live_recovery.specs.Disagreeing.{at_unit, first_disagreement, told_by}
 use Rattle.live_recovery.specs.Standing.{Agree, Compares, blocks_came, with_heard}
 use Rattle.live_recovery.specs.declared.copies.Disagreement.{Disagreement}
@@ -136,10 +136,10 @@ disagreed (next ∷ before) d is = by (first_disagreement before) refl is (λ at
     by (Some x) at is earlier = onward d.sequence (eqb next.unit d.unit) next.came (came_to d.unit before) (earlier (at ∙ is))
     by None at is earlier = came_tells before next.unit next.came d is
 
-pub of_no_venues : (s : LiveSetup) (Vs : ℕ → List Raw) (came : List UnitCame) (d : Disagreement) → first_disagreement came ≡ Some d → AreHonest s Vs came → ⊥
-of_no_venues s Vs came d is honest =
-    are_of_no_venue image (Vs d.unit) (lines_history (came_to d.unit came)) d.sequence (disagreed came d is)
-    (lines_are_as_honest image (Vs d.unit) (end_setup s d.unit) (came_to d.unit came) (honest d.unit).1)
+pub of_no_venue : (s : LiveSetup) (V : List Raw) (came : List UnitCame) (d : Disagreement) → first_disagreement came ≡ Some d → IsHonestAt s came d.unit V → ⊥
+of_no_venue s V came d is honest =
+    are_of_no_venue image V (lines_history (came_to d.unit came)) d.sequence (disagreed came d is)
+    (lines_are_as_honest image V (end_setup s d.unit) (came_to d.unit came) honest.1)
 
 -- ---- A block is compared
 module _ (s : LiveSetup) (block : Block) (came : List UnitCame) where

@@ -1,7 +1,7 @@
 -- How a run ends.
-use Rattle.std.proofs.Common.{◌≡◌, ℕ, Bool, true≢false, List, [], ◌∷◌, ◌++◌, take, drop, refl, sym, ap, ◌∙◌, subst, append_assoc, Option, None, Result, Ok, Err}
+use Rattle.std.proofs.Common.{◌≡◌, ℕ, Bool, true≢false, List, [], ◌∷◌, take, drop, refl, sym, ap, ◌∙◌, subst, Option, None, Result, Ok, Err}
 use Rattle.std.specs.Result.{IsErr, IsErrAnd}
-use Rattle.std.proofs.lemmas.List.{append-nil, take-append-drop}
+use Rattle.std.proofs.lemmas.List.{take-append-drop}
 use Rattle.pitch_io.specs.Putting.{Grows}
 use Rattle.stream_print.specs.Putting.{PutsSome}
 use Rattle.stream_print.specs.Told.{between}
@@ -11,11 +11,12 @@ use Rattle.live_net.specs.LiveCalls.{LiveCall, AddsLiveCall, Receive}
 use Rattle.live_net.specs.declared.net.Received.TheVariants as received
 use Rattle.live_turns.specs.Due.{IsMade}
 use Rattle.live_turns.specs.declared.due.Due.{Due}
-use Rattle.live_units.specs.Coming.{BeginsLiveText, LiveSetup, UnitCame, live_books, live_lines, with_datagram}
+use Rattle.live_units.specs.Coming.{BeginsLiveText, LiveSetup, UnitCame, live_lines, with_datagram}
 use Rattle.live_units.specs.Units.{HasGrown, LiveEnds, LiveStands, OfLive}
 use Rattle.stream_print.specs.declared.failure.PrintError.{PrintError}
 use Rattle.stream_print.specs.declared.failure.PrintError.TheVariants as printing
 use Rattle.live_units.specs.declared.units.LiveUnits.{LiveUnits}
+use Rattle.live_units.proofs.Ending.{begins_lines}
 use Rattle.live_units.proofs.Hearing.{heard_begun, heard_none}
 use Rattle.live_recovery.specs.Disagreeing.{first_disagreement}
 use Rattle.live_recovery.specs.layers.Failures.{unheard}
@@ -27,19 +28,9 @@ use Rattle.live_recovery.specs.declared.error.RecoverError.{RecoverError}
 use Rattle.live_recovery.specs.declared.error.RecoverError.TheVariants as errors
 use Rattle.live_recovery.specs.declared.recovering.Recovering.{Recovering}
 use Rattle.live_recovery.proofs.Bringing.{same_still}
-use Rattle.live_recovery.proofs.Disagreeing.{of_no_venues}
+use Rattle.live_recovery.proofs.Disagreeing.{of_no_venue}
 use Rattle.live_recovery.proofs.Going.{adds_more, adds_none, runs_on, shows_on}
 use Rattle.live_recovery.proofs.Showing.{HasShown, WritesBy, shown_more}
-
--- ---- Prefixes of the whole text
-module _ (s : LiveSetup) (came : List UnitCame) where
-  begins_lines : (text more : List ℕ) → live_lines s came ≡ text ++ more → BeginsLiveText s came text
-  begins_lines text more is = record {
-    lines = ([], (more, append-nil (live_lines s came) ∙ is));
-    honest = λ Vs honest.
-        let books : List ℕ = live_books s Vs came in
-        (more ++ books, ap (λ (t : List ℕ). t ++ books) is ∙ append_assoc text more books);
-  }
 
 -- ---- Runs that end
 -- where no device but the sink failed, a prefix of the whole text was written
@@ -126,7 +117,7 @@ module _ (s : Setup) (start now : Devices) (r : Recovering) (what : Due) (about 
       now = then;
       text = live_lines s.listens about.came;
       is_run = record { adds = adds_more about.run brought start.calls now.calls now'.calls about.stands.adds adds; runs = runs_on s start now r what about brought made then brings; writes = grows; shows = shows_on s start now r what about brought made now'.written then brings grown };
-      is_end = record { before = about.came; datagram = bytes; last = refl; came_is = refl; told = told; text_is = refl; of_none = λ Vs honest. of_no_venues s.listens Vs then.came d told honest };
+      is_end = record { before = about.came; datagram = bytes; last = refl; came_is = refl; told = told; text_is = refl; of_none = λ V honest. of_no_venue s.listens V then.came d told honest };
     }
 
 -- ---- With no call more

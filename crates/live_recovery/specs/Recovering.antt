@@ -9,7 +9,7 @@ use Rattle.live_net.specs.declared.live.WaitEnd.TheVariants as wait_end
 use Rattle.live_turns.specs.Due.{due}
 use Rattle.live_turns.specs.declared.due.Due.TheVariants as to
 use Rattle.pitch_model.specs.History.{Raw}
-use Rattle.live_units.specs.Coming.{UnitCame, AreHonest, IsLiveText, BeginsLiveText}
+use Rattle.live_units.specs.Coming.{UnitCame, IsHonestAt, IsLiveText, BeginsLiveText}
 use Rattle.live_units.specs.Coming.{live_lines, with_datagram}
 use Rattle.live_recovery.specs.Counting.{counts_of}
 use Rattle.live_recovery.specs.Disagreeing.{first_disagreement}
@@ -57,9 +57,9 @@ pub record HaveEnded (s : Setup) (run : List LiveCall) (now : Now) : Type 0 wher
   pub more : Bool
   pub is_due : due (ways s) (ends_now s now) run ≡ Some (to.Wait more)
 
--- at the end the whole text was written: the lines of all that came, and, for every family of
--- venues of which each unit's history speaks honestly, the books of exactly each unit's first n
--- messages, n its reach; no copies differ, and what came was counted
+-- at the end the whole text was written: the lines of all that came, and the books of all units, of
+-- which each is that of exactly its venue's first n messages, n its reach, for every venue of which
+-- the unit's history speaks honestly; no copies differ, and what came was counted
 pub record IsDone (s : Setup) (counts : Counts) (run : List LiveCall) (now : Now)
     (text : List ℕ) : Type 0 where
   pub over : IsOver run ⊎ HaveEnded s run now
@@ -75,7 +75,7 @@ pub record IsCutOff (s : Setup) (run : List LiveCall) (now : Now) (text : List �
   pub text_is : text ≡ live_lines s.listens now.came
 
 -- copies differ of which the second came with the last datagram: the lines of all that came before
--- it were written, and what came with it speaks honestly of no family of venues
+-- it were written, and what then has come to the unit of the copies speaks honestly of no venue
 pub record HaveDisagreed (s : Setup) (d : Disagreement) (run : List LiveCall) (now : Now)
     (text : List ℕ) : Type 0 where
   pub before : List UnitCame
@@ -84,7 +84,7 @@ pub record HaveDisagreed (s : Setup) (d : Disagreement) (run : List LiveCall) (n
   pub came_is : now.came ≡ with_datagram s.listens datagram before
   pub told : first_disagreement now.came ≡ Some d
   pub text_is : text ≡ live_lines s.listens before
-  pub of_none : (Vs : ℕ → List Raw) → AreHonest s.listens Vs now.came → ⊥
+  pub of_none : (V : List Raw) → IsHonestAt s.listens now.came d.unit V → ⊥
 
 -- by the answer: else a prefix of the whole text was
 abbrev pub IsEnd : Setup → Result Counts RecoverError → List LiveCall → Now → List ℕ → Type 0
