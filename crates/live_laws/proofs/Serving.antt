@@ -7,6 +7,7 @@ use Rattle.pitch_model.specs.History.{Raw}
 use Rattle.spin_path.specs.Paths.{all_said}
 use Rattle.client_end.specs.Came.{Came, Heard, SpinTook, SpinLost, SpinMade, SpinCut, GrpMade, GrpTook, GrpCut, GrpLost, Second}
 use Rattle.live_units.specs.Coming.{came_to, end_setup}
+use Rattle.live_units.proofs.Books.{live_text_of_all}
 use Rattle.live_net.specs.declared.live.PeerPut.TheVariants as put
 use Rattle.venue_end.specs.Came.{VenueCame, venue_after}
 use Rattle.venue_end.specs.declared.setup.VenueSetup.{VenueSetup}
@@ -161,12 +162,12 @@ hearers_are_honest s result old new served c came numbered hears = λ unit.
 pub books_are_the_venues : BooksAreTheVenues
 books_are_the_venues s result old new served c counts before after out heard numbered apart all =
     let hears = carried_is_heard s served.run c heard.run heard.now apart heard.is_run.runs all in
-    heard.is_end.text_is.honest (messages_of s served.now.came) (hearers_are_honest s result old new served c.listens heard.now.came numbered hears)
+    live_text_of_all c.listens heard.now.came (messages_of s served.now.came) heard.text heard.is_end.text_is (hearers_are_honest s result old new served c.listens heard.now.came numbered hears)
 
 pub no_copies_differ : NoCopiesDiffer
 no_copies_differ s result old new served c d before after out heard numbered apart all =
     let hears = carried_is_heard s served.run c heard.run heard.now apart heard.is_run.runs all in
-    heard.is_end.of_none (messages_of s served.now.came) (hearers_are_honest s result old new served c.listens heard.now.came numbered hears)
+    heard.is_end.of_none (messages_of s served.now.came d.unit) (hearers_are_honest s result old new served c.listens heard.now.came numbered hears d.unit)
 
 -- ---- Later
 contained_last : {A : Type 0} (xs ys : List A) (y : A) → Contains ys y → Contains (xs ++ ys) y
