@@ -5,7 +5,7 @@
 
 PROGRAM is the path of the built program, LIVE that of the built `pitch_live`: a folder, a Debian
 package and a root filesystem are made of them and tried, where dpkg-deb stands and root may chroot.
-Without any the man page and the completion are. The last line is `N passed, M failed`; the exit
+Without any the man pages and the completions are. The last line is `N passed, M failed`; the exit
 status is 0 only where none failed.
 """
 import os
@@ -34,11 +34,12 @@ def script(name, *words):
     return tried([os.path.join(HERE, name), *words])
 
 
-def completed(*words):
+def completed(*words, program='pitch'):
     """What the completion offers behind these words."""
-    lines = script('texts.py', 'completion')[1]
-    ask = '%s\nCOMP_WORDS=(pitch %s)\nCOMP_CWORD=%d\n_pitch\necho "${COMPREPLY[@]}"'
-    return tried(['bash', '-c', ask % (lines, ' '.join(words), len(words))])[1].split()
+    lines = script('texts.py', 'completion', *[program][program == 'pitch':])[1]
+    ask = '%s\nCOMP_WORDS=(%s %s)\nCOMP_CWORD=%d\n_%s\necho "${COMPREPLY[@]}"'
+    asked = ask % (lines, program, ' '.join(words), len(words), program)
+    return tried(['bash', '-c', asked])[1].split()
 
 
 def of_texts():
@@ -53,6 +54,15 @@ def of_texts():
     yield 'options', completed('storm', '--'), ['--number', '--units', '--steps', '--workers']
     yield 'an option', completed('follow', '--po'), ['--port']
     yield 'a command without any', completed('show', '--'), []
+    status, page, said = script('texts.py', 'man', 'pitch_live')
+    parts = re.findall(r'^\.SH WORDS OF ([A-Z]+)$', page, re.M)
+    yield 'the commands of the live man page', parts, ['LISTEN', 'SERVE']
+    yield 'its words', [page.count('\\-\\-%s ' % it) for it in ('hold', 'kept', 'setup')], [1, 1, 2]
+    if shutil.which('groff'):
+        yield 'its form too', tried(['groff', '-man', '-Tutf8', '-ww'], page.encode())[::2], (0, '')
+    yield 'a live command', completed('li', program='pitch_live'), ['listen']
+    yield 'its option', completed('listen', '--ho', program='pitch_live'), ['--hold']
+    yield 'an option of the other', completed('serve', '--ke', program='pitch_live'), ['--kept']
 
 
 def of_faults():

@@ -3,7 +3,7 @@
 #
 #     packages/deb.sh FOLDER [FILE.deb]
 #
-# The programs go to /usr/bin, the man page and the completion to their places, and the rest to
+# The programs go to /usr/bin, man pages and completions to their places, and the rest to
 # /usr/share/doc/pitch-feed. FILE.deb is pitch-feed_VERSION_amd64.deb where it is not given.
 set -eu
 fail() {
@@ -25,12 +25,12 @@ mkdir -p "$docs" "$work/DEBIAN"
 for name in pitch pitch_live; do
     [ -x "$1/$name" ] || continue
     install -D -m 755 "$1/$name" "$work/usr/bin/$name"
+    install -D -m 644 "$1/$name.1" "$work/usr/share/man/man1/$name.1"
+    gzip -9n "$work/usr/share/man/man1/$name.1"
+    install -D -m 644 "$1/$name.bash" "$work/usr/share/bash-completion/completions/$name"
     # The documents call ./pitch.
     ln -s "/usr/bin/$name" "$docs/$name"
 done
-install -D -m 644 "$1/pitch.1" "$work/usr/share/man/man1/pitch.1"
-gzip -9n "$work/usr/share/man/man1/pitch.1"
-install -D -m 644 "$1/pitch.bash" "$work/usr/share/bash-completion/completions/pitch"
 cp -r "$1/README.md" "$1/ABOUT" "$1/docs" "$1/examples" "$docs/"
 chmod -R u+rwX,go+rX,go-w "$work"
 cat > "$work/DEBIAN/control" <<END

@@ -1,6 +1,6 @@
 #!/usr/bin/env bash
 # Writes a folder with the built program and what can be used of it without the kit: documents,
-# examples, a man page, the completion of bash; what it was built of, and the sums of all.
+# examples, man pages, completions of bash; what it was built of, and the sums of all.
 #
 #     packages/dist.sh [FOLDER] [--program FILE [--live FILE]]
 #
@@ -81,6 +81,10 @@ cp -- "$root/docs/quotes.png" "$folder/docs/"
     tar -c --null -T -) | tar -x -C "$folder"
 "$root/packages/texts.py" man > "$folder/pitch.1"
 "$root/packages/texts.py" completion > "$folder/pitch.bash"
+if [ -n "$live" ]; then
+    "$root/packages/texts.py" man pitch_live > "$folder/pitch_live.1"
+    "$root/packages/texts.py" completion pitch_live > "$folder/pitch_live.bash"
+fi
 "$root/packages/texts.py" links "$folder"
 sum() { sha256sum < "$1" | cut -c1-64; }
 cat > "$folder/ABOUT" <<END

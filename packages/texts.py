@@ -1,11 +1,12 @@
 #!/usr/bin/env python3
-"""Makes the man page and the completion of README's table of commands, and mends the links of a
-folder that has some of the documents.
+"""Makes the man pages and the completions of what README and LIVE have in tables, and mends the links
+of a folder that has some of the documents.
 
-    packages/texts.py man | completion
+    packages/texts.py man | completion [pitch_live]
     packages/texts.py links FOLDER
 
-A link of a document in FOLDER that leads to no file there becomes its text.
+Those of `pitch` are made where no program is named. A link of a document in FOLDER that leads to no
+file there becomes its text.
 """
 import os
 import re
@@ -16,9 +17,9 @@ TOP = Path(__file__).resolve().parent.parent
 OPTION = re.compile(r'--[a-z]+')
 
 
-def rows_of(heading, head):
-    """The rows of the table below a heading of README.md, without links."""
-    text = (TOP / 'README.md').read_text(encoding='utf-8')
+def rows_of(heading, head, page='README.md'):
+    """The rows of the table below a heading of a page, without links."""
+    text = (TOP / page).read_text(encoding='utf-8')
     part = re.split(r'^#+ ', text[text.index('\n%s\n' % heading) + len(heading) + 2:], flags=re.M)[0]
     lines = [line for line in part.splitlines() if line.startswith('|')]
     rows = [[it.strip() for it in line.strip('|').split('|')] for line in lines]
@@ -40,7 +41,14 @@ def statuses():
     return [row for row in rows if './pitch' not in row[1]]
 
 
-# ---- The man page
+def live_commands():
+    """Those of `pitch_live`, each with its words and what they are."""
+    head = ['Word', 'What it is']
+    return {'listen': rows_of('## Words', head, 'docs/LIVE.md'),
+            'serve': rows_of('## A venue of your own', head, 'docs/LIVE.md')}
+
+
+# ---- The man pages
 def roff(text):
     """A text of the table as one of roff: words in backticks are bold."""
     text = text.replace('\\', '\\e').replace('-', '\\-')
@@ -70,16 +78,48 @@ def man():
     return '\n'.join(lines) + '\n'
 
 
-# ---- The completion
+def live_man():
+    lines = ['.TH PITCH_LIVE 1 "" "pitch_live" "Cboe US Equities Multicast PITCH"', '.SH NAME',
+             'pitch_live \\- hears a Multicast PITCH feed on sockets, or serves one, proved', '.SH SYNOPSIS',
+             '.B pitch_live listen', '\\fIOPTIONS\\fR', '.br', '.B pitch_live serve', '\\fIOPTIONS\\fR',
+             '.SH DESCRIPTION', '.B listen', 'hears lines A and B and gap lines, asks the servers of each unit for what was',
+             'lost, and writes what', '.B pitch follow', 'writes, as it goes on.', '.B serve',
+             'is a venue of units, with their lines, Gap Request Proxies and Spin Servers; its commands come by',
+             'standard input.']
+    for command, rows in live_commands().items():
+        lines.append('.SH WORDS OF ' + command.upper())
+        for words, what in rows:
+            lines += ['.TP', '.B ' + roff(words.replace('`', '')), roff(sentence(what))]
+    lines += ['.SH EXIT STATUS', 'That of', '.BR pitch (1),',
+              'or 8 where two copies of a message of a unit that is named differ.',
+              '.SH SEE ALSO', '.BR pitch (1),', 'and LIVE.md among the documents in',
+              '/usr/share/doc/pitch-feed where it came as a package.']
+    return '\n'.join(lines) + '\n'
+
+
+# ---- The completions
 def completion():
     options = {}
     for words, *_ in commands():
         found = options.setdefault(words.strip('`').split()[0], [])
         found += [it for it in OPTION.findall(words) if it not in found]
+    return completion_of('pitch', options, 'Files come by redirection.')
+
+
+def live_completion():
+    options = {}
+    for command, rows in live_commands().items():
+        found = OPTION.findall(' '.join(words for words, _ in rows))
+        options[command] = sorted(set(found), key=found.index)
+    return completion_of('pitch_live', options, 'A file is only given behind an option.')
+
+
+def completion_of(program, options, files):
+    """What completes the commands of a program, and the options of each."""
     case = '            %s) words="%s" ;;\n'
     cases = ''.join(case % (name, ' '.join(it)) for name, it in options.items() if it)
-    return '''# Completion of pitch for bash: its commands, and the options of each. Files come by redirection.
-_pitch() {
+    return '''# Completion of %s for bash: its commands, and the options of each. %s
+_%s() {
     local words=""
     if [ "$COMP_CWORD" = 1 ]; then
         words="%s"
@@ -89,8 +129,8 @@ _pitch() {
     fi
     mapfile -t COMPREPLY < <(compgen -W "$words" -- "${COMP_WORDS[COMP_CWORD]}")
 }
-complete -o default -F _pitch pitch
-''' % (' '.join(options), cases)
+complete -o default -F _%s %s
+''' % (program, files, program, ' '.join(options), cases, program, program)
 
 
 # ---- Links
@@ -106,14 +146,14 @@ def mend_links(folder):
 
 def main():
     words = sys.argv[1:]
-    if words == ['man']:
-        sys.stdout.write(man())
-    elif words == ['completion']:
-        sys.stdout.write(completion())
+    made = {('man',): man, ('completion',): completion,
+            ('man', 'pitch_live'): live_man, ('completion', 'pitch_live'): live_completion}
+    if tuple(words) in made:
+        sys.stdout.write(made[tuple(words)]())
     elif len(words) == 2 and words[0] == 'links' and os.path.isdir(words[1]):
         mend_links(Path(words[1]))
     else:
-        sys.exit('texts.py: usage: texts.py man | completion | links FOLDER')
+        sys.exit('texts.py: usage: texts.py man | completion [pitch_live], or links FOLDER')
 
 
 if __name__ == '__main__':
