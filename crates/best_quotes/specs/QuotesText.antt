@@ -31,12 +31,13 @@ quote_tail quote =
 unfoldable pub quote_line : ℕ → QuoteLine → List ℕ
 quote_line unit line = quote_head unit line.sequence ++ quote_tail line.quote
 
--- the lines of a block that comes after others
-abbrev pub quoted_after : ℕ → (ℕ → List Raw) → List Block → Block → List ℕ
-quoted_after H Vs before block =
+-- the lines of a block that comes after others, where V are the messages of its unit's venue
+abbrev pub quoted_after : ℕ → List Raw → List Block → Block → List ℕ
+quoted_after H V before block =
     flat_map (quote_line block.unit)
-    (quotes_of_block H (Vs block.unit) (unit_history block.unit before) block)
+    (quotes_of_block H V (unit_history block.unit before) block)
 
 -- the whole text for some blocks, the oldest first
 abbrev pub quotes_text : ℕ → (ℕ → List Raw) → List Block → List ℕ
-quotes_text H Vs blocks = texts_after (quoted_after H Vs) [] blocks
+quotes_text H Vs blocks =
+    texts_after (λ before block. quoted_after H (Vs block.unit) before block) [] blocks

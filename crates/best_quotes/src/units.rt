@@ -6,7 +6,7 @@ ghost use Rattle.pitch_model.specs.History.{Raw};
 ghost use Rattle.pitch_model.specs.Honest.{Honest};
 ghost use Rattle.heard_items.specs.Changes.{block_change};
 ghost use Rattle.heard_items.specs.HeardBlocks.{heard_block};
-ghost use Rattle.heard_items.specs.Units.{unit_history, AllHonest};
+ghost use Rattle.heard_items.specs.Units.{unit_history};
 ghost use Rattle.best_quotes.specs.Quoting.{quotes_of_block};
 ghost use Rattle.best_quotes.specs.Units.{StandsAt, IsQuoted, HaveQuoted};
 
@@ -102,13 +102,14 @@ impl QuotedUnits {
         // Whatever blocks came before, the units then stand for these with the block after them.
         ensures heard { OnOk result ((before : List Block)
             → HaveQuoted self.old before → HaveQuoted self.new (block.now ∷ before)) }
-        // For every family of venues of which all these blocks speak, what is appended are the
+        // For every venue of which the unit's blocks up to this one speak, what is appended are the
         // block's quotes.
         ensures quotes { OnOk result
-            ((before : List Block) (Image : List Raw → ℕ → List Raw) (Vs : ℕ → List Raw)
-            → HaveQuoted self.old before → AllHonest Image Vs (block.now ∷ before)
+            ((before : List Block) (Image : List Raw → ℕ → List Raw) (V : List Raw)
+            → HaveQuoted self.old before
+            → Honest Image V (unit_history block.now.unit (block.now ∷ before))
             → lines.new.items ≡ lines.old.items ++ quotes_of_block self.old.limit
-            (Vs block.now.unit) (unit_history block.now.unit before) block.now) }
+            V (unit_history block.now.unit before) block.now) }
         ensures change { IfOk result (λ change. (before : List Block)
             → HaveQuoted self.old before
             → change ≡ block_change self.old.limit (unit_history block.now.unit before) block.now) }

@@ -5,7 +5,7 @@ use Rattle.pitch_model.specs.History.{Entry, Raw}
 use Rattle.pitch_model.specs.Honest.{Honest}
 use Rattle.pitch_model.specs.Reach.{reach}
 use Rattle.heard_items.specs.HeardBlocks.{heard_block}
-use Rattle.heard_items.specs.Units.{unit_history, AllHonest}
+use Rattle.heard_items.specs.Units.{unit_history}
 use Rattle.unit_clients.specs.Clients.{Units, HaveHeard}
 use Rattle.client_core.specs.Tracks.{Tracks, Keeps}
 use Rattle.order_book.specs.Turns.{turns_of}
@@ -35,10 +35,10 @@ IsIdle block = (block.raws ≡ []) ⊎ (block.sequence ≡ 0)
 abbrev pub Advances : ℕ → List Entry → Block → Type 0
 Advances H E block = reach H E < reach H (heard_block block E)
 
--- of whatever blocks the clients of a stream heard, where these and the next one speak of one
--- venue's messages for each unit, the lines are those of the next
+-- of whatever blocks the clients of a stream heard, and of any venue of whose messages alone those
+-- of the next one's unit and it speak, the lines are those of the next
 abbrev pub TellBlock : Units → List QuoteLine → Block → Type 0
 TellBlock units lines block =
-    (before : List Block) (Image : List Raw → ℕ → List Raw) (Vs : ℕ → List Raw)
-    → HaveHeard units before → AllHonest Image Vs (block ∷ before)
-    → lines ≡ quotes_of_block units.limit (Vs block.unit) (unit_history block.unit before) block
+    (before : List Block) (Image : List Raw → ℕ → List Raw) (V : List Raw)
+    → HaveHeard units before → Honest Image V (unit_history block.unit (block ∷ before))
+    → lines ≡ quotes_of_block units.limit V (unit_history block.unit before) block

@@ -6,7 +6,6 @@ use Rattle.std.proofs.lemmas.List.{append-nil, take-append-drop, length-reverse}
 use Rattle.pitch_io.specs.Putting.{Grows}
 use Rattle.unit_packets.specs.Blocks.{Block}
 use Rattle.unit_packets.specs.Cutting.{blocks_of}
-use Rattle.pitch_model.specs.History.{Raw}
 use Rattle.feed_lines.specs.Follow.{lines_after}
 use Rattle.stream_print.specs.Carriers.{is_faulty}
 use Rattle.stream_print.specs.Followed.{IsBooksText, IsFollowed}
@@ -15,7 +14,8 @@ use Rattle.stream_print.specs.Page.{Prints, PrintsSuch}
 use Rattle.stream_print.specs.Printing.{Fails, FailsBlocks}
 use Rattle.stream_print.specs.Putting.{PutsSome}
 use Rattle.stream_print.specs.Sinks.{PutsSuch}
-use Rattle.stream_print.specs.TextLaws.{AreTextsAfter, BeginTextsAfter, IsEnd}
+use Rattle.stream_print.specs.TextLaws.{IsEnd}
+use Rattle.stream_print.specs.Texts.{AreTextsAfter, BeginTextsAfter}
 use Rattle.stream_print.specs.Told.{between}
 use Rattle.stream_print.specs.declared.failure.PrintError.{PrintError}
 use Rattle.stream_print.specs.declared.failure.PrintError.TheVariants as printing
@@ -26,6 +26,7 @@ use Rattle.stream_print.specs.declared.stream_form.StreamForm.TheVariants.{Follo
 use Rattle.stream_print.proofs.Flow.{grows_none}
 use Rattle.stream_print.proofs.Printing.{prints_flushed, prints_whole, prints_more, puts_after, puts_so_far, puts_then}
 use Rattle.stream_print.proofs.Streaming.{fails_more}
+use Rattle.stream_print.proofs.Venues.{lines_are, lines_begin}
 use Rattle.live_net.specs.LineCalls.{LineCall, Receive, AddsCall}
 use Rattle.live_net.specs.declared.net.Received.TheVariants as received
 use Rattle.live_listen.specs.Counting.{is_stray, counts_of}
@@ -41,9 +42,6 @@ use Rattle.live_listen.specs.declared.listener.Listener.{Listener}
 use Rattle.live_listen.proofs.Coming.{more_heard}
 use Rattle.live_listen.proofs.Showing.{HasShown, shown_all, shown_more, shown_none}
 use Rattle.live_listen.proofs.Standing.{adds_none, adds_more}
-
-no_venues : ℕ → List Raw
-no_venues unit = []
 
 -- what was printed, once the page is written out
 prints_out : (a b c : Option (List ℕ)) (t x : List ℕ) → Prints a [] b t x → Grows b c t → Grows a c x
@@ -86,7 +84,7 @@ module _ (s : Setup) (start v : Devices) (run : List LineCall) (adds : AddsRun r
     where
       puts : (e : PrintError) → PutsSuch (BeginTextsAfter (Follow s.hold) [] (heard_of s run)) start.written [] v.written → ListenEnds s (Err (unprinted e)) start.calls v.calls (between start.written v.written)
       puts e some =
-          let begins = some.such no_venues tt in
+          let begins = lines_begin s.hold [] (heard_of s run) some.text some.such in
           ends_begun some.text e (begins_lines s.hold (heard_of s run) some.text begins.0 begins.1) some.puts
 
       by : (e : TaskError) → Fails e (Follow s.hold) [] (heard_of s run) start.written [] v.written → ListenEnds s (Err (unheard e)) start.calls v.calls (between start.written v.written)
@@ -113,7 +111,7 @@ module _ (s : Setup) (start u : Devices) (l : Listener) (run : List LineCall) (s
 
   lines_now : text_now ≡ lines_after s.hold [] (heard_of s run)
   unfolding text_now printed_first
-  lines_now = printed_first.such no_venues tt
+  lines_now = lines_are s.hold [] (heard_of s run) printed_first.text printed_first.such
 
   printed_now : Prints start.written [] u.written l.printer.page.text text_now
   unfolding text_now printed_first

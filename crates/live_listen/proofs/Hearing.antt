@@ -10,11 +10,10 @@ use Rattle.unit_packets.proofs.Walking.{Walked, walked_none, walked_more, walked
 use Rattle.stream_print.specs.Carriers.{is_faulty}
 use Rattle.stream_print.specs.Knowing.{task_form}
 use Rattle.stream_print.specs.Printing.{PrintsBlocks, FailsBlocks}
-use Rattle.stream_print.specs.Texts.{texts_by}
 use Rattle.stream_print.specs.declared.failure.TaskError.{TaskError}
 use Rattle.stream_print.specs.declared.failure.TaskError.TheVariants.{OutOfMemory}
 use Rattle.stream_print.specs.declared.printer.Printer.{Printer}
-use Rattle.stream_print.proofs.Streaming.{prints_no_block, prints_blocks_more, fails_more, puts_nothing}
+use Rattle.stream_print.proofs.Streaming.{begin_none, prints_no_block, prints_blocks_more, fails_more, puts_nothing}
 use Rattle.live_listen.specs.Counting.{is_stray}
 use Rattle.live_listen.specs.Heard.{is_wanted, heard_in}
 use Rattle.live_listen.specs.Standing.{HearsBlocks, Hears}
@@ -25,7 +24,7 @@ pub fails_unprinted : (p : Printer) (w : Option (List ℕ)) (blocks : List Block
 fails_unprinted p w blocks = λ before known. record {
   text = [];
   puts = puts_nothing w (p.page.text ++ []);
-  such = λ Vs venues. (texts_by (task_form p.task) Vs before blocks, refl);
+  such = begin_none (task_form p.task) before blocks;
 }
 
 module _ (units : List ℕ) where

@@ -5,14 +5,12 @@ use Rattle.std.specs.List.{flat_map, count_by}
 use Rattle.std.proofs.lemmas.List.{append-nil}
 use Rattle.std.proofs.lemmas.List.Sums.{sum_by-append}
 use Rattle.pitch_io.specs.Putting.{Grows}
-use Rattle.feed_lines.proofs.Texts.{texts_none}
 use Rattle.unit_packets.specs.Blocks.{Block}
 use Rattle.unit_packets.specs.Cutting.{blocks_of}
 use Rattle.stream_print.specs.Carriers.{is_faulty}
 use Rattle.stream_print.specs.Knowing.{task_form, HasPrinted}
 use Rattle.stream_print.specs.Page.{Page, Prints}
 use Rattle.stream_print.specs.Printing.{PrintsBlocks}
-use Rattle.stream_print.specs.Texts.{block_text}
 use Rattle.stream_print.specs.declared.printer.Printer.{Printer}
 use Rattle.stream_print.specs.declared.stream_form.StreamForm.TheVariants.{Follow}
 use Rattle.stream_print.proofs.Printing.{prints_flushed}
@@ -50,7 +48,7 @@ prints_page p page a b grows is =
       printed = λ before known. record {
         text = [];
         printed = subst (λ (q : Page). Prints a p.page.text b q.text []) (sym is) (prints_flushed a b p.page.text grows);
-        such = λ Vs venues. sym (texts_none (block_text (task_form p.task) Vs) before);
+        such = refl;
       };
     }
 

@@ -1,8 +1,9 @@
 -- What the client at a unit's place stands for.
 use Rattle.std.specs.Prelude.{◌≡◌, ℕ, List, Some, slice_get}
 use Rattle.pitch_model.specs.History.{Raw}
+use Rattle.pitch_model.specs.Honest.{Honest}
 use Rattle.unit_packets.specs.Blocks.{Block}
-use Rattle.heard_items.specs.Units.{unit_history, AllHonest}
+use Rattle.heard_items.specs.Units.{unit_history}
 use Rattle.client_core.specs.Tracks.{Tracks, Keeps}
 use Rattle.client_core.specs.declared.client.UnitClient.{UnitClient}
 use Rattle.unit_clients.specs.Clients.{Units, HaveHeard}
@@ -13,5 +14,5 @@ module _ (units : Units) (unit : ℕ) (client : UnitClient) (at : slice_get unit
   tracks_there = (h.clients.each unit (Some client) at).1
 
   -- it keeps to its venue's messages
-  pub keeps_there : (Image : List Raw → ℕ → List Raw) (Vs : ℕ → List Raw) → AllHonest Image Vs before → Keeps client (Vs unit)
-  keeps_there Image Vs honest = h.keep.each unit (Some client) at Image (Vs unit) (honest unit)
+  pub keeps_there : (Image : List Raw → ℕ → List Raw) (V : List Raw) → Honest Image V (unit_history unit before) → Keeps client V
+  keeps_there Image V honest = h.keep.each unit (Some client) at Image V honest

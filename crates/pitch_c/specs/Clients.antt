@@ -4,6 +4,7 @@ use Rattle.std.specs.Option.{IsSome, IsSomeAnd}
 use Rattle.std.specs.FinMap as map
 use Rattle.pitch_fields.specs.Side.{side_of}
 use Rattle.pitch_model.specs.History.{Raw}
+use Rattle.pitch_model.specs.Honest.{Honest}
 use Rattle.pitch_model.specs.Book.{Book, book_after}
 use Rattle.pitch_model.specs.Levels.{best, orders_of, with_level}
 use Rattle.pitch_model.specs.Reach.{reach}
@@ -12,7 +13,7 @@ use Rattle.pitch_model.specs.Statuses.{statuses_of}
 use Rattle.unit_packets.specs.Blocks.{Block}
 use Rattle.unit_packets.specs.Held.{StandsFirst}
 use Rattle.unit_packets.specs.Lending.{header_for}
-use Rattle.heard_items.specs.Units.{unit_history, AllHonest}
+use Rattle.heard_items.specs.Units.{unit_history}
 use Rattle.heard_items.specs.Changes.{block_change}
 use Rattle.unit_clients.specs.Clients.{Units, HaveHeard}
 use Rattle.unit_clients.specs.Room.{KeepRoom}
@@ -55,15 +56,15 @@ pub record Hears (old new : Units) (block : Block) (told : HeardOut) : Type 0 wh
 abbrev pub HearFirst : List ℕ → Units → Units → HeardOut → Type 0
 HearFirst bytes old new told = (block : Block) × StandsFirst bytes block × Hears old new block told
 
--- of whatever blocks they had heard, where these and the next one speak of one venue's messages for
--- each unit, the array has what each message with which that took the reach on changed of the best
--- prices, as many changes as fit
+-- of whatever blocks they had heard, and of any venue of whose messages alone those of the next
+-- one's unit and it speak, the array has what each message with which that took the reach on
+-- changed of the best prices, as many changes as fit
 abbrev pub TellQuotes : Units → Block → List QuoteOut → List QuoteOut → ℕ → Type 0
 TellQuotes units block old new number =
-    (before : List Block) (Image : List Raw → ℕ → List Raw) (Vs : ℕ → List Raw)
-    → HaveHeard units before → AllHonest Image Vs (block ∷ before)
+    (before : List Block) (Image : List Raw → ℕ → List Raw) (V : List Raw)
+    → HaveHeard units before → Honest Image V (unit_history block.unit (block ∷ before))
     → Fills (mapped quote_shown
-    (quotes_of_block units.limit (Vs block.unit) (unit_history block.unit before) block))
+    (quotes_of_block units.limit V (unit_history block.unit before) block))
     old new number
 
 -- a block was heard, and its quotes were told
@@ -94,17 +95,19 @@ TellStatus units unit told =
     (before : List Block) → HaveHeard units before
     → told ≡ status_shown (status_of units.limit (unit_history unit before))
 
--- the book of the first n messages of the unit's venue, n the unit's reach
-abbrev pub reached_book : Units → ℕ → List Block → (ℕ → List Raw) → Book
-reached_book units unit before Vs =
-    book_after (take (reach units.limit (unit_history unit before)) (Vs unit))
+-- the book of the first n of a venue's messages, n the unit's reach
+abbrev pub reached_book : Units → ℕ → List Block → List Raw → Book
+reached_book units unit before V =
+    book_after (take (reach units.limit (unit_history unit before)) V)
 
--- of whatever blocks they have heard, and of all messages of which these alone speak, the answer is
--- read off the book of the first n
+-- of whatever blocks they have heard, and of any venue of whose messages alone those of the unit
+-- speak, the answer is read off the book of the first n; what other units' blocks say is nothing to
+-- it
 abbrev pub OfReachedBook : Units → ℕ → (Book → Type 0) → Type 0
 OfReachedBook units unit P =
-    (before : List Block) (Image : List Raw → ℕ → List Raw) (Vs : ℕ → List Raw)
-    → HaveHeard units before → AllHonest Image Vs before → P (reached_book units unit before Vs)
+    (before : List Block) (Image : List Raw → ℕ → List Raw) (V : List Raw)
+    → HaveHeard units before → Honest Image V (unit_history unit before)
+    → P (reached_book units unit before V)
 
 abbrev pub TellBest : Units → ℕ → List ℕ → ℕ → BestOut → Type 0
 TellBest units unit symbol side told =

@@ -1,9 +1,8 @@
 -- What `relay` writes: for each block the datagrams of what it added, under the relay's own
 -- sequences from 1.
-use Rattle.std.specs.Prelude.{◌<◌, ℕ, List, [], ◌∷◌}
+use Rattle.std.specs.Prelude.{ℕ, List, []}
 use Rattle.std.specs.List.{concat, AllByRecursion}
 use Rattle.pitch_fields.specs.Fields.{AreBytes}
-use Rattle.pitch_fields.specs.Limits.{last_sequence}
 use Rattle.unit_packets.specs.Blocks.{Block}
 use Rattle.pitch_model.specs.History.{Entry, Raw}
 use Rattle.pitch_model.specs.Honest.{Honest}
@@ -21,24 +20,21 @@ pub record IsVenue (V : List Raw) (E : List Entry) : Type 0 where
 abbrev pub AreRelayVenues : ℕ → (ℕ → List Raw) → List Block → Type 0
 AreRelayVenues H Vs before = (unit : ℕ) → IsVenue (Vs unit) (relay_history H unit before)
 
--- the datagrams of a block that comes after others
-abbrev pub datagrams_after : ℕ → (ℕ → List Raw) → List Block → Block → List (List ℕ)
-datagrams_after H Vs before block =
+-- the datagrams of a block that comes after others, where V are the messages of its unit's venue
+abbrev pub datagrams_after : ℕ → List Raw → List Block → Block → List (List ℕ)
+datagrams_after H V before block =
     let E : List Entry = relay_history H block.unit before in
-    relayed_datagrams H (Vs block.unit) block.unit E (relay_heard H block E)
+    relayed_datagrams H V block.unit E (relay_heard H block E)
 
 -- the same, joined
-abbrev pub relayed_after : ℕ → (ℕ → List Raw) → List Block → Block → List ℕ
-relayed_after H Vs before block = concat (datagrams_after H Vs before block)
+abbrev pub relayed_after : ℕ → List Raw → List Block → Block → List ℕ
+relayed_after H V before block = concat (datagrams_after H V before block)
 
 -- the whole text for some blocks, the oldest first
 abbrev pub relay_text : ℕ → (ℕ → List Raw) → List Block → List ℕ
-relay_text H Vs blocks = texts_after (relayed_after H Vs) [] blocks
+relay_text H Vs blocks =
+    texts_after (λ before block. relayed_after H (Vs block.unit) before block) [] blocks
 
 -- how many messages a unit's relay sends up to some blocks
-abbrev pub sent_up_to : ℕ → (ℕ → List Raw) → ℕ → List Block → ℕ
-sent_up_to H Vs unit before = relayed_count H (Vs unit) (relay_history H unit before)
-
--- what the relay of a block's unit sends up to this block has no sequences any more
-abbrev pub Outruns : ℕ → (ℕ → List Raw) → List Block → Block → Type 0
-Outruns H Vs before block = last_sequence < sent_up_to H Vs block.unit (block ∷ before)
+abbrev pub sent_up_to : ℕ → List Raw → ℕ → List Block → ℕ
+sent_up_to H V unit before = relayed_count H V (relay_history H unit before)

@@ -98,7 +98,7 @@ impl Relays {
         ensures limit { self.new.limit ≡ self.old.limit }
         // Whatever blocks came before, the relays then stand for these with the block after them.
         ensures heard { OnOk result (HaveRelayedAfter self.old self.new block.now) }
-        // For every family of venues of which all these blocks speak, what is appended are the
+        // For every venue of which the unit's blocks up to this one speak, what is appended are the
         // block's datagrams.
         ensures sends { OnOk result
             (AppendVenues self.old block.now out.old.items out.new.items) }

@@ -6,7 +6,6 @@ use Rattle.std.proofs.Math.Seq.{take-length, drop-length}
 use Rattle.std.proofs.lemmas.Bool.{lt-ltb, le-ltb}
 use Rattle.pitch_io.specs.Putting.{Grows}
 use Rattle.unit_packets.specs.Blocks.{Block}
-use Rattle.pitch_model.specs.History.{Raw}
 use Rattle.relay_unit.proofs.Bytes.{heard_within}
 use Rattle.stream_print.specs.Carriers.{carried_blocks, with_counts}
 use Rattle.stream_print.specs.layers.Suiting.{Suits}
@@ -22,8 +21,8 @@ use Rattle.stream_print.specs.Printing.{PrintsPiece}
 use Rattle.stream_print.specs.Putting.{PutsSome}
 use Rattle.stream_print.specs.Sinks.{PutsSuch}
 use Rattle.stream_print.specs.Readers.{blocks_with}
-use Rattle.stream_print.specs.Texts.{AreVenuesOf, AreTexts, BeginTexts, IsText}
-use Rattle.stream_print.specs.TextLaws.{AreTextsAfter, BeginTextsAfter, Outruns, OutrunsAmong}
+use Rattle.stream_print.specs.Texts.{AreTexts, AreTextsAfter, BeginTexts, BeginTextsAfter, IsText}
+use Rattle.stream_print.specs.TextLaws.{Outruns, OutrunsAmong}
 use Rattle.stream_print.specs.TextLaws.{IsEnd}
 use Rattle.stream_print.specs.declared.printer.Printer.{Printer}
 use Rattle.stream_print.specs.declared.reader.StreamReader.{StreamReader}
@@ -31,37 +30,19 @@ use Rattle.stream_print.specs.declared.failure.StreamTrouble.{StreamTrouble}
 use Rattle.stream_print.specs.declared.failure.StreamTrouble.TheVariants.{TooLong}
 use Rattle.stream_print.proofs.Carriers.{blocks_split, blocks_longer, trouble_lasts, counts_behind}
 use Rattle.stream_print.proofs.Printing.{prints_more, prints_whole, prints_written, puts_after, puts_longer, such_more, such_then}
-use Rattle.stream_print.proofs.Streaming.{texts_joined, begin_joined, begin_longer}
+use Rattle.stream_print.proofs.Streaming.{texts_joined, begin_joined, begin_longer, texts_begin}
+use Rattle.stream_print.proofs.Venues.{lines_are, shown_are}
 
 -- ---- Texts of longer bytes
--- the blocks of a stream come after none
-from_start : (form : StreamForm) (blocks : List Block) (text : List ℕ) → AreTextsAfter form [] blocks text → AreTexts form blocks text
-from_start form blocks text are = λ Vs venues. are Vs (subst (AreVenuesOf form Vs) (sym (append-nil (reverse blocks))) venues)
-
-to_start : (form : StreamForm) (blocks : List Block) (text : List ℕ) → AreTexts form blocks text → AreTextsAfter form [] blocks text
-to_start form blocks text are = λ Vs venues. are Vs (subst (AreVenuesOf form Vs) (append-nil (reverse blocks)) venues)
-
-begin_from : (form : StreamForm) (blocks : List Block) (text : List ℕ) → BeginTextsAfter form [] blocks text → BeginTexts form blocks text
-begin_from form blocks text first = λ Vs venues. first Vs (subst (AreVenuesOf form Vs) (sym (append-nil (reverse blocks))) venues)
-
 module _ (form : StreamForm) (xs ys all : List Block) (are : all ≡ xs ++ ys) where
   texts_then : (t u : List ℕ) → AreTexts form xs t → AreTextsAfter form (reverse xs) ys u → AreTexts form all (t ++ u)
-  texts_then t u one other =
-      from_start form all (t ++ u) (texts_joined form [] xs ys all are t u (to_start form xs t one)
-      (subst (λ (bs : List Block). AreTextsAfter form bs ys u) (sym (append-nil (reverse xs))) other))
+  texts_then t u one other = texts_joined form [] xs ys all are t u one (subst (λ (bs : List Block). AreTextsAfter form bs ys u) (sym (append-nil (reverse xs))) other)
 
   begin_then : (t u : List ℕ) → AreTexts form xs t → BeginTextsAfter form (reverse xs) ys u → BeginTexts form all (t ++ u)
-  begin_then t u one other =
-      begin_from form all (t ++ u) (begin_joined form [] xs ys all are t u (to_start form xs t one)
-      (subst (λ (bs : List Block). BeginTextsAfter form bs ys u) (sym (append-nil (reverse xs))) other))
+  begin_then t u one other = begin_joined form [] xs ys all are t u one (subst (λ (bs : List Block). BeginTextsAfter form bs ys u) (sym (append-nil (reverse xs))) other)
 
   begin_more : (t : List ℕ) → BeginTexts form xs t → BeginTexts form all t
-  begin_more t some =
-      begin_from form all t (begin_longer form [] xs ys all are t (λ Vs venues. some Vs (subst (AreVenuesOf form Vs) (append-nil (reverse xs)) venues)))
-
--- the texts begin themselves
-texts_begin : (form : StreamForm) (blocks : List Block) (t : List ℕ) → AreTexts form blocks t → BeginTexts form blocks t
-texts_begin form blocks t are = λ Vs venues. ([], sym (are Vs venues) ∙ sym (append-nil t))
+  begin_more t some = begin_longer form [] xs ys all are t some
 
 -- some prefix of the texts of fewer bytes is some prefix of those of more
 pub puts_texts : (carrier : Carrier) (form : StreamForm) (a b : Option (List ℕ)) (bytes piece : List ℕ) → PutsSuch (BeginTexts form (carried_blocks carrier bytes)) a [] b
@@ -127,7 +108,7 @@ fed_unflushed carrier form start u v w f g r s bytes piece fed all puts =
     record {
       text = printed.text;
       puts = puts_after start v w [] g.page.text printed.text printed.printed puts;
-      such = texts_begin form (carried_blocks carrier (bytes ++ piece)) printed.text printed.such;
+      such = texts_begin form [] (carried_blocks carrier (bytes ++ piece)) printed.text printed.such;
     }
 
 -- a sink that fails at a piece
@@ -255,18 +236,14 @@ refuses_end carrier form most first before now start written bytes trouble le re
 no_end : (texts end : List ℕ) → ◌≡◌ {A = List ℕ} end [] → texts ++ end ≡ texts
 no_end texts end is = ap (λ (t : List ℕ). texts ++ t) is ∙ append-nil texts
 
--- a family of venues without messages
-no_venues : ℕ → List Raw
-no_venues unit = []
-
 is_text : (carrier : Carrier) (form : StreamForm) (bytes texts end : List ℕ) → AreTexts form (carried_blocks carrier bytes) texts → IsEnd form (reverse (carried_blocks carrier bytes)) end → IsText carrier form bytes (with_counts carrier bytes (texts ++ end))
 is_text carrier (Follow hold) bytes texts end are is = (
   texts ++ end,
-  (record { books = end; are_books = is; text_is = ap (λ (t : List ℕ). t ++ end) (are no_venues tt) }, refl),
+  (record { books = end; are_books = is; text_is = ap (λ (t : List ℕ). t ++ end) (lines_are hold [] (carried_blocks carrier bytes) texts are) }, refl),
 )
-is_text carrier Show bytes texts end are is = ap (with_counts carrier bytes) (no_end texts end is ∙ are no_venues tt)
-is_text carrier (Relay hold) bytes texts end are is = λ Vs venues. ap (with_counts carrier bytes) (no_end texts end is ∙ are Vs venues)
-is_text carrier (Quotes hold) bytes texts end are is = λ Vs venues. ap (with_counts carrier bytes) (no_end texts end is ∙ are Vs venues)
+is_text carrier Show bytes texts end are is = ap (with_counts carrier bytes) (no_end texts end is ∙ shown_are [] (carried_blocks carrier bytes) texts are)
+is_text carrier (Relay hold) bytes texts end are is = (texts, (are, ap (with_counts carrier bytes) (no_end texts end is)))
+is_text carrier (Quotes hold) bytes texts end are is = (texts, (are, ap (with_counts carrier bytes) (no_end texts end is)))
 
 -- all was written
 pub writes_whole : (carrier : Carrier) (form : StreamForm) (most : ℕ) (first before now start written : Option (List ℕ)) (bytes texts end counts : List ℕ) → length bytes ≤ most → Consumes first before bytes → IsAtEnd before × Keeps before now

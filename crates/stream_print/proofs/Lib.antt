@@ -14,3 +14,4 @@ pub mod Streaming
 pub mod Taking
 pub mod Uniting
 pub mod Unprinted
+pub mod Venues

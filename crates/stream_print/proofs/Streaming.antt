@@ -1,5 +1,5 @@
 -- Blocks that are printed one after another, and packets that are.
-use Rattle.std.proofs.Common.{◌≡◌, ℕ, ◌+◌, ◌-◌, ◌*◌, ◌≤◌, ◌==◌, Bool, true, false, cond, List, [], ◌∷◌, ◌++◌, length, drop, reverse, refl, sym, ap, ◌∙◌, subst, arith, append_assoc, Option}
+use Rattle.std.proofs.Common.{◌≡◌, ℕ, ◌+◌, ◌-◌, ◌*◌, ◌≤◌, List, [], ◌∷◌, ◌++◌, length, drop, reverse, refl, sym, ap, ◌∙◌, subst, arith, append_assoc, Option}
 use Rattle.std.proofs.lemmas.List.{append-nil, length-drop, reverse-append}
 use Rattle.pitch_fields.proofs.Lists.{reverse_then}
 use Rattle.unit_packets.specs.Blocks.{Block}
@@ -9,42 +9,21 @@ use Rattle.unit_packets.specs.Held.{StandsFirst}
 use Rattle.unit_packets.proofs.Streams.{leads}
 use Rattle.unit_packets.proofs.Cuts.{rest_short, rest_stands}
 use Rattle.unit_packets.proofs.Walking.{Walked, walked_none, walked_more, walked_all}
-use Rattle.pitch_model.specs.History.{Raw}
-use Rattle.pitch_model.specs.Image.{image}
-use Rattle.heard_items.proofs.Units.{all_honest_before}
-use Rattle.feed_lines.specs.Texts.{texts_after}
-use Rattle.feed_lines.proofs.Texts.{texts_none, texts_first, texts_more}
-use Rattle.relay_unit.specs.Hearing.{relay_heard, relay_history}
-use Rattle.relay_unit.specs.RelayText.{IsVenue, AreRelayVenues}
-use Rattle.relay_unit.proofs.Speaking.{venue_before}
 use Rattle.stream_print.specs.Knowing.{task_form, HasPrinted}
 use Rattle.stream_print.specs.Page.{Prints, PrintsSuch}
 use Rattle.stream_print.specs.Printing.{PrintsBlock, PrintsBlocks, Fails, FailsBlock, FailsBlocks, PrintsWhole}
 use Rattle.stream_print.specs.Putting.{PutsSome}
 use Rattle.stream_print.specs.Sinks.{PutsSuch}
-use Rattle.stream_print.specs.Texts.{AreVenuesOf, block_text, texts_by}
-use Rattle.stream_print.specs.TextLaws.{AreTextsAfter, BeginTextsAfter, Outruns, OutrunsAmong}
+use Rattle.stream_print.specs.Texts.{IsBlockText, AreTextsAfter, BeginTextsAfter}
+use Rattle.stream_print.specs.TextLaws.{Outruns, OutrunsAmong}
 use Rattle.stream_print.specs.declared.failure.TaskError.{TaskError}
 use Rattle.stream_print.specs.declared.failure.TaskError.TheVariants.{SequencesSpent, Write, OutOfMemory}
 use Rattle.stream_print.specs.declared.printer.Printer.{Printer}
 use Rattle.stream_print.specs.declared.stream_form.StreamForm.{StreamForm}
-use Rattle.stream_print.specs.declared.stream_form.StreamForm.TheVariants.{Follow, Show, Relay, Quotes}
 use Rattle.stream_print.proofs.Flow.{grows_none}
 use Rattle.stream_print.proofs.Printing.{prints_none, such_more, such_then}
 
--- ---- Texts and blocks
-pub texts_append : (text : List Block → Block → List ℕ) (before xs ys : List Block) → texts_after text before (xs ++ ys) ≡ texts_after text before xs ++ texts_after text (reverse xs ++ before) ys
-texts_append text before xs [] =
-    ap (texts_after text before) (append-nil xs) ∙ sym (append-nil (texts_after text before xs))
-    ∙ ap (λ (t : List ℕ). texts_after text before xs ++ t) (sym (texts_none text (reverse xs ++ before)))
-texts_append text before xs (b ∷ ys) =
-    ap (texts_after text before) (sym (append_assoc xs (b ∷ []) ys))
-    ∙ texts_append text before (xs ++ b ∷ []) ys
-    ∙ ap (λ (t : List ℕ). t ++ texts_after text (reverse (xs ++ b ∷ []) ++ before) ys) (texts_more text before xs b)
-    ∙ ap (λ (bs : List Block). (texts_after text before xs ++ text (reverse xs ++ before) b) ++ texts_after text bs ys) (reverse_then xs b before)
-    ∙ append_assoc (texts_after text before xs) (text (reverse xs ++ before) b) (texts_after text (b ∷ (reverse xs ++ before)) ys)
-    ∙ ap (λ (t : List ℕ). texts_after text before xs ++ t) (sym (texts_first text (reverse xs ++ before) b ys))
-
+-- ---- Blocks behind others
 pub reverse_append : (xs ys before : List Block) → reverse (xs ++ ys) ++ before ≡ reverse ys ++ (reverse xs ++ before)
 reverse_append xs [] before = ap (λ (bs : List Block). reverse bs ++ before) (append-nil xs)
 reverse_append xs (y ∷ ys) before =
@@ -57,57 +36,41 @@ reverse_append xs (y ∷ ys) before =
     reverse_first : (y : Block) (ys : List Block) → reverse (y ∷ ys) ≡ reverse ys ++ y ∷ []
     reverse_first y ys = reverse-append (y ∷ []) ys
 
--- ---- The venues of blocks
-relay_before : (H : ℕ) (Vs : ℕ → List Raw) (block : Block) (before : List Block) → AreRelayVenues H Vs (block ∷ before) → AreRelayVenues H Vs before
-relay_before H Vs block before all = λ unit. by unit (block.unit == unit) (all unit)
-  where
-    by : (unit : ℕ) (b : Bool) → IsVenue (Vs unit) (cond b (relay_heard H block (relay_history H unit before)) (relay_history H unit before)) → IsVenue (Vs unit) (relay_history H unit before)
-    by unit true v = venue_before H (Vs unit) block (relay_history H unit before) v
-    by unit false v = v
-
--- what is a venue of blocks is one of those before the last
-venues_before : (form : StreamForm) (Vs : ℕ → List Raw) (block : Block) (before : List Block) → AreVenuesOf form Vs (block ∷ before) → AreVenuesOf form Vs before
-venues_before (Follow hold) Vs block before all = tt
-venues_before Show Vs block before all = tt
-venues_before (Relay hold) Vs block before all = relay_before hold Vs block before all
-venues_before (Quotes hold) Vs block before all = all_honest_before image Vs block before all
-
-pub venues_behind : (form : StreamForm) (Vs : ℕ → List Raw) (more before : List Block) → AreVenuesOf form Vs (more ++ before) → AreVenuesOf form Vs before
-venues_behind form Vs [] before all = all
-venues_behind form Vs (block ∷ more) before all = venues_behind form Vs more before (venues_before form Vs block (more ++ before) all)
-
 -- ---- The texts of blocks behind those of others
+texts_then : (form : StreamForm) (xs before ys : List Block) (t u : List ℕ) → AreTextsAfter form before xs t → AreTextsAfter form (reverse xs ++ before) ys u → AreTextsAfter form before (xs ++ ys) (t ++ u)
+texts_then form [] before ys t u one other = subst (λ (l : List ℕ). AreTextsAfter form before ys (l ++ u)) (sym one) other
+texts_then form (x ∷ xs) before ys t u (first, (here, (others, (are, is)))) other =
+    let behind : AreTextsAfter form (reverse xs ++ (x ∷ before)) ys u = subst (λ (bs : List Block). AreTextsAfter form bs ys u) (reverse_append (x ∷ []) xs before) other in
+    (first, (here, (others ++ u, (texts_then form xs (x ∷ before) ys others u are behind, ap (λ (l : List ℕ). l ++ u) is ∙ append_assoc first others u))))
+
 module _ (form : StreamForm) (before xs ys all : List Block) (are : all ≡ xs ++ ys) where
-  -- the venues of all are those of the first, and of the others behind them
-  venues_all : (Vs : ℕ → List Raw) → AreVenuesOf form Vs (reverse all ++ before) → AreVenuesOf form Vs (reverse ys ++ (reverse xs ++ before))
-  venues_all Vs venues = subst (AreVenuesOf form Vs) (ap (λ (bs : List Block). reverse bs ++ before) are ∙ reverse_append xs ys before) venues
-
-  venues_first : (Vs : ℕ → List Raw) → AreVenuesOf form Vs (reverse all ++ before) → AreVenuesOf form Vs (reverse xs ++ before)
-  venues_first Vs venues = venues_behind form Vs (reverse ys) (reverse xs ++ before) (venues_all Vs venues)
-
-  texts_split : (Vs : ℕ → List Raw) → texts_by form Vs before all ≡ texts_by form Vs before xs ++ texts_by form Vs (reverse xs ++ before) ys
-  texts_split Vs = ap (texts_by form Vs before) are ∙ texts_append (block_text form Vs) before xs ys
-
   pub texts_joined : (t u : List ℕ) → AreTextsAfter form before xs t → AreTextsAfter form (reverse xs ++ before) ys u → AreTextsAfter form before all (t ++ u)
-  texts_joined t u one other = λ Vs venues.
-      ap (λ (l : List ℕ). l ++ u) (one Vs (venues_first Vs venues))
-      ∙ ap (λ (l : List ℕ). texts_by form Vs before xs ++ l) (other Vs (venues_all Vs venues))
-      ∙ sym (texts_split Vs)
+  texts_joined t u one other = subst (λ (bs : List Block). AreTextsAfter form before bs (t ++ u)) (sym are) (texts_then form xs before ys t u one other)
 
   pub begin_joined : (t u : List ℕ) → AreTextsAfter form before xs t → BeginTextsAfter form (reverse xs ++ before) ys u → BeginTextsAfter form before all (t ++ u)
-  begin_joined t u one other = λ Vs venues.
-      let here = other Vs (venues_all Vs venues) in (
-        here.0,
-        texts_split Vs ∙ ap (λ (l : List ℕ). l ++ texts_by form Vs (reverse xs ++ before) ys) (sym (one Vs (venues_first Vs venues)))
-            ∙ ap (λ (l : List ℕ). t ++ l) here.1 ∙ sym (append_assoc t u here.0),
-      )
+  begin_joined t u one other = record {
+    done = xs ++ other.done;
+    left = other.left;
+    blocks_are = are ∙ ap (λ (bs : List Block). xs ++ bs) other.blocks_are ∙ sym (append_assoc xs other.done other.left);
+    are_texts = texts_then form xs before other.done t u one other.are_texts;
+  }
 
   -- what begins the texts of fewer blocks begins those of more
   pub begin_longer : (t : List ℕ) → BeginTextsAfter form before xs t → BeginTextsAfter form before all t
-  begin_longer t some = λ Vs venues.
-      let here = some Vs (venues_first Vs venues) in
-      let more : List ℕ = texts_by form Vs (reverse xs ++ before) ys in
-      (here.0 ++ more, texts_split Vs ∙ ap (λ (l : List ℕ). l ++ more) here.1 ∙ append_assoc t here.0 more)
+  begin_longer t some = record {
+    done = some.done;
+    left = some.left ++ ys;
+    blocks_are = are ∙ ap (λ (bs : List Block). bs ++ ys) some.blocks_are ∙ append_assoc some.done some.left ys;
+    are_texts = some.are_texts;
+  }
+
+-- nothing begins the texts of any blocks
+pub begin_none : (form : StreamForm) (before blocks : List Block) → BeginTextsAfter form before blocks []
+begin_none form before blocks = record { done = []; left = blocks; blocks_are = refl; are_texts = refl }
+
+-- the texts of some blocks begin themselves
+pub texts_begin : (form : StreamForm) (before blocks : List Block) (t : List ℕ) → AreTextsAfter form before blocks t → BeginTextsAfter form before blocks t
+texts_begin form before blocks t are = record { done = blocks; left = []; blocks_are = sym (append-nil blocks); are_texts = are }
 
 -- ---- A block more
 pub prints_no_block : (p : Printer) (written : Option (List ℕ)) → PrintsBlocks p p written written []
@@ -117,28 +80,28 @@ prints_no_block p written = record {
   printed = λ before h. record {
     text = [];
     printed = prints_none written p.page.text;
-    such = λ Vs venues. sym (texts_none (block_text (task_form p.task) Vs) before);
+    such = refl;
   };
 }
 
-one_text : (form : StreamForm) (Vs : ℕ → List Raw) (before : List Block) (block : Block) → texts_by form Vs before (block ∷ []) ≡ block_text form Vs before block
-one_text form Vs before block =
-    texts_first (block_text form Vs) before block [] ∙ ap (λ (t : List ℕ). block_text form Vs before block ++ t) (texts_none (block_text form Vs) (block ∷ before))
-    ∙ append-nil (block_text form Vs before block)
+one_text : (form : StreamForm) (before : List Block) (block : Block) (x : List ℕ) → IsBlockText form before block x → AreTextsAfter form before (block ∷ []) x
+one_text form before block x is = (x, (is, ([], (refl, sym (append-nil x)))))
 
--- the text of a block was printed, where it is this one for each family of its venues
-pub prints_text : (form : StreamForm) (before : List Block) (block : Block) (a b : Option (List ℕ)) (t u x : List ℕ) → Prints a t b u x
-    → ((Vs : ℕ → List Raw) → AreVenuesOf form Vs (block ∷ before) → x ≡ block_text form Vs before block) → PrintsSuch (AreTextsAfter form before (block ∷ [])) a t b u
-prints_text form before block a b t u x printed is = record { text = x; printed = printed; such = λ Vs venues. is Vs venues ∙ sym (one_text form Vs before block) }
+-- the text of a block was printed
+pub prints_text : (form : StreamForm) (before : List Block) (block : Block) (a b : Option (List ℕ)) (t u x : List ℕ) → Prints a t b u x → IsBlockText form before block x → PrintsSuch (AreTextsAfter form before (block ∷ [])) a t b u
+prints_text form before block a b t u x printed is = record { text = x; printed = printed; such = one_text form before block x is }
 
 -- or some prefix of it
-pub puts_text : (form : StreamForm) (before : List Block) (block : Block) (a b : Option (List ℕ)) (t x : List ℕ) → PutsSome a b (t ++ x)
-    → ((Vs : ℕ → List Raw) → AreVenuesOf form Vs (block ∷ before) → x ≡ block_text form Vs before block) → PutsSuch (BeginTextsAfter form before (block ∷ [])) a t b
-puts_text form before block a b t x puts is = record { text = x; puts = puts; such = λ Vs venues. ([], one_text form Vs before block ∙ sym (is Vs venues) ∙ sym (append-nil x)) }
+pub puts_text : (form : StreamForm) (before : List Block) (block : Block) (a b : Option (List ℕ)) (t x : List ℕ) → PutsSome a b (t ++ x) → IsBlockText form before block x → PutsSuch (BeginTextsAfter form before (block ∷ [])) a t b
+puts_text form before block a b t x puts is = record { text = x; puts = puts; such = texts_begin form before (block ∷ []) x (one_text form before block x is) }
 
 -- or of what stood on the page alone
 pub puts_page : (form : StreamForm) (before : List Block) (block : Block) (a b : Option (List ℕ)) (t : List ℕ) → PutsSome a b t → PutsSuch (BeginTextsAfter form before (block ∷ [])) a t b
-puts_page form before block a b t puts = record { text = []; puts = subst (PutsSome a b) (sym (append-nil t)) puts; such = λ Vs venues. (texts_by form Vs before (block ∷ []), refl) }
+puts_page form before block a b t puts = record {
+  text = [];
+  puts = subst (PutsSome a b) (sym (append-nil t)) puts;
+  such = begin_none form before (block ∷ []);
+}
 
 -- nothing was written
 pub puts_nothing : (o : Option (List ℕ)) (t : List ℕ) → PutsSome o o t

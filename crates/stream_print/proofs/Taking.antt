@@ -3,7 +3,6 @@ use Rattle.std.proofs.Common.{◌≡◌, ℕ, ◌+◌, ◌≤◌, List, [], ◌+
 use Rattle.std.specs.Io.KnownBytes.{Consumes, Keeps}
 use Rattle.std.proofs.lemmas.List.{take-append-le}
 use Rattle.pitch_io.specs.Causes.{HasCause}
-use Rattle.feed_lines.proofs.Texts.{texts_none}
 use Rattle.stream_print.specs.Told.{between}
 use Rattle.stream_print.specs.declared.carrier.Carrier.{Carrier}
 use Rattle.stream_print.specs.declared.stream_form.StreamForm.{StreamForm}
@@ -13,13 +12,12 @@ use Rattle.stream_print.specs.layers.Feeding.{Fed}
 use Rattle.stream_print.specs.Inputs.{lasting_trouble, StopsSoon, WritesSome, WritesTexts}
 use Rattle.stream_print.specs.Knowing.{task_form, HasPrinted}
 use Rattle.stream_print.specs.Readers.{HasRead, rest_size}
-use Rattle.stream_print.specs.Texts.{block_text, texts_by}
 use Rattle.stream_print.specs.declared.printer.Printer.{Printer}
 use Rattle.stream_print.specs.declared.reader.StreamReader.{StreamReader}
 use Rattle.stream_print.proofs.Carriers.{no_blocks, no_trouble}
 use Rattle.stream_print.proofs.Feeding.{take_prefix, consumes_more, consumes_kept, consumes_none, writes_texts}
 use Rattle.stream_print.proofs.Flow.{grows_none}
-use Rattle.stream_print.proofs.Streaming.{puts_nothing}
+use Rattle.stream_print.proofs.Streaming.{begin_none, puts_nothing}
 
 -- the bytes that were taken so far were fed
 pub record Taken (carrier : Carrier) (form : StreamForm) (f : Printer) (r : StreamReader) (count : ℕ) (first left start written : Option (List ℕ)) : Type 0 where
@@ -46,7 +44,7 @@ taken_none carrier form f r first start suits is known page read empty =
         read = read;
         known = subst (HasPrinted f) (sym (ap reverse (no_blocks carrier))) known;
         empty = page;
-        wrote = subst (WritesTexts form (between start start)) (sym (no_blocks carrier)) (record { text = []; wrote = grows_none start; are_texts = λ Vs venues. sym (texts_none (block_text form Vs) []) });
+        wrote = subst (WritesTexts form (between start start)) (sym (no_blocks carrier)) (record { text = []; wrote = grows_none start; are_texts = refl });
         few = omega (arith, number, empty);
       };
       unended = no_trouble carrier;
@@ -68,7 +66,7 @@ taken_more carrier form f g r s count more first left left' start u v piece t si
 -- nothing was read and nothing written
 pub writes_none : (carrier : Carrier) (form : StreamForm) (first start : Option (List ℕ)) → WritesSome carrier form (between first first) (between start start)
 writes_none carrier form first start = writes_texts carrier form first first start start [] (consumes_none first)
-    (record { text = []; puts = puts_nothing start []; such = λ Vs venues. (texts_by form Vs [] (carried_blocks carrier []), refl) })
+    (record { text = []; puts = puts_nothing start []; such = begin_none form [] (carried_blocks carrier []) })
 
 -- a later cause is one
 pub later_cause : (a b c : ℕ) (failed wanted : Type 0) → a ≤ b → HasCause b c failed → (wanted → failed) → HasCause a c wanted

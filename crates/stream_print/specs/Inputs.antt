@@ -101,8 +101,8 @@ pub record ReadsSome (carrier : Carrier) (form : StreamForm) (input out : Told) 
   pub read : Consumes input.old input.new bytes
   pub wrote : WritesTexts form out (carried_blocks carrier bytes)
 
--- some bytes were read, and a prefix of a text was written: of one with which the texts of their
--- blocks begin, or, where they are all, of the whole text
+-- some bytes were read, and a prefix of a text was written: of the texts of the first of their
+-- blocks, or, where they are all, of the whole text
 pub record WritesSome (carrier : Carrier) (form : StreamForm) (input out : Told) : Type 0 where
   pub bytes : List ℕ
   pub read : Consumes input.old input.new bytes

@@ -16,7 +16,8 @@ use Rattle.stream_print.specs.Knowing.{task_form, Knows, HasPrinted}
 use Rattle.stream_print.specs.Page.{PrintsSuch}
 use Rattle.stream_print.specs.Sinks.{PutsSuch}
 use Rattle.stream_print.specs.Readers.{HasRead, rest_size, blocks_with}
-use Rattle.stream_print.specs.TextLaws.{AreTextsAfter, BeginTextsAfter, OutrunsAmong}
+use Rattle.stream_print.specs.TextLaws.{OutrunsAmong}
+use Rattle.stream_print.specs.Texts.{AreTextsAfter, BeginTextsAfter}
 use Rattle.stream_print.specs.declared.carrier.Carrier.{Carrier}
 use Rattle.stream_print.specs.declared.counts.PacketCounts.{PacketCounts}
 use Rattle.stream_print.specs.declared.counts.PacketUse.{PacketUse}

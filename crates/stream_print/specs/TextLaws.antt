@@ -1,26 +1,12 @@
--- Where texts begin, and what is left where the sequences run out.
+-- Where the sequences run out, and what stands at the end of a stream.
 use Rattle.std.specs.Prelude.{◌≡◌, ◌<◌, ℕ, List, [], ◌∷◌, ◌++◌, reverse}
 use Rattle.pitch_fields.specs.Limits.{last_sequence}
 use Rattle.unit_packets.specs.Blocks.{Block}
-use Rattle.pitch_model.specs.History.{Raw}
 use Rattle.relay_unit.specs.Sparing.{messages_heard}
 use Rattle.stream_print.specs.declared.stream_form.StreamForm.{StreamForm}
 use Rattle.stream_print.specs.declared.stream_form.StreamForm.TheVariants.{Follow, Show, Relay}
 use Rattle.stream_print.specs.declared.stream_form.StreamForm.TheVariants.{Quotes}
 use Rattle.stream_print.specs.Followed.{IsBooksText}
-use Rattle.stream_print.specs.Texts.{AreVenuesOf, texts_by}
-
--- likewise the texts of some blocks that come after others
-abbrev pub AreTextsAfter : StreamForm → List Block → List Block → List ℕ → Type 0
-AreTextsAfter form before blocks text =
-    (Vs : ℕ → List Raw) → AreVenuesOf form Vs (reverse blocks ++ before)
-    → text ≡ texts_by form Vs before blocks
-
--- a prefix of them
-abbrev pub BeginTextsAfter : StreamForm → List Block → List Block → List ℕ → Type 0
-BeginTextsAfter form before blocks text =
-    (Vs : ℕ → List Raw) → AreVenuesOf form Vs (reverse blocks ++ before)
-    → (more : List ℕ) × (texts_by form Vs before blocks ≡ text ++ more)
 
 -- a block's text can't be made: of a relay, since its unit's blocks have more messages than there
 -- are sequences; of the other forms each can

@@ -4,9 +4,10 @@
 //!
 //! `print_stream` says for each way to end what was written, whatever pieces the source gives: the
 //! whole text, the texts of the blocks before a fault, or some prefix of the text where a device or
-//! memory failed. Where a text rests on the messages of the venues, that is said for every family
-//! of venues of which the blocks speak. Give it a carrier, a form, a source and a sink; a command
-//! with a new form adds a `Task`, and one whose blocks come otherwise a `Carrier` with its reader.
+//! memory failed. Where the text of a block or of a book rests on the messages of a venue, that is
+//! said for every venue of which the blocks of its unit speak. Give it a carrier, a form, a source
+//! and a sink; a command with a new form adds a `Task`, and one whose blocks come otherwise a
+//! `Carrier` with its reader.
 #![tactic(auto)]
 
 mod blocks;

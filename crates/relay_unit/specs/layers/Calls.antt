@@ -6,7 +6,7 @@ use Rattle.heard_items.specs.declared.change.Change.{Change}
 use Rattle.relay_unit.specs.layers.Changing.{merged_change}
 use Rattle.relay_unit.specs.Following.{HasSent, SendsMore, CountsBoth}
 use Rattle.relay_unit.specs.Hearing.{relay_heard, relay_history}
-use Rattle.relay_unit.specs.RelayText.{IsVenue, AreRelayVenues, relayed_after, sent_up_to}
+use Rattle.relay_unit.specs.RelayText.{IsVenue, relayed_after, sent_up_to}
 use Rattle.relay_unit.specs.Relayed.{relayed_count, relayed_datagrams}
 use Rattle.relay_unit.specs.Relays.{Relays, HaveRelayed}
 use Rattle.relay_unit.specs.Sparing.{HasHeard, IsSpentBy, messages_heard}
@@ -65,11 +65,12 @@ abbrev pub HaveRelayedAfter : Relays → Relays → Block → Type 0
 HaveRelayedAfter r r' block =
     (before : List Block) → HaveRelayed r before → HaveRelayed r' (block ∷ before)
 
+-- of each venue of which the blocks of this one's unit up to it speak
 abbrev pub AppendVenues : Relays → Block → (out out' : List ℕ) → Type 0
 AppendVenues r block out out' =
-    (before : List Block) (Vs : ℕ → List Raw) → HaveRelayed r before
-    → AreRelayVenues r.limit Vs (block ∷ before)
-    → out' ≡ out ++ relayed_after r.limit Vs before block
+    (before : List Block) (V : List Raw) → HaveRelayed r before
+    → IsVenue V (relay_history r.limit block.unit (block ∷ before))
+    → out' ≡ out ++ relayed_after r.limit V before block
 
 abbrev pub AreChanged : Relays → Block → Change → Type 0
 AreChanged r block change =
@@ -78,10 +79,10 @@ AreChanged r block change =
 
 abbrev pub OutrunVenues : Relays → Block → RelayError → Type 0
 OutrunVenues r block error =
-    (before : List Block) (Vs : ℕ → List Raw) → HaveRelayed r before
-    → AreRelayVenues r.limit Vs (block ∷ before)
-    → IsOutrun error (sent_up_to r.limit Vs block.unit before)
-    (sent_up_to r.limit Vs block.unit (block ∷ before))
+    (before : List Block) (V : List Raw) → HaveRelayed r before
+    → IsVenue V (relay_history r.limit block.unit (block ∷ before))
+    → IsOutrun error (sent_up_to r.limit V block.unit before)
+    (sent_up_to r.limit V block.unit (block ∷ before))
 
 abbrev pub SpendFew : Relays → Block → RelayError → Type 0
 SpendFew r block error =

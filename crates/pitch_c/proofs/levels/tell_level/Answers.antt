@@ -16,10 +16,10 @@ returns-in-Some-unit-clause-level c zero =
     let there = c.in-Some-unit.ensures.there in
     subst (λ (o : Option Side). IsSomeAnd o (λ s. OfReachedBook units unit (λ book. c.level_out.result ≡ level_shown (with_level book c.args.symbol.now s c.args.price))))
     (sym c.in-Some.is ∙ c.from_byte.ensures)
-    (λ before Image Vs h honest.
-    let book = reached_book units unit before Vs in
+    (λ before Image V h honest.
+    let book = reached_book units unit before V in
     let side = c.in-Some.side in
-    let shares = c.shares_at-shares.ensures units.limit (unit_history unit before) (Vs unit) (tracks_there units unit client there before h) (keeps_there units unit client there before h Image Vs honest)
+    let shares = c.shares_at-shares.ensures units.limit (unit_history unit before) V (tracks_there units unit client there before h) (keeps_there units unit client there before h Image V honest)
     ∙ ap (λ (b : List ℕ). level book b side c.from_long-price.result) c.from_eight.ensures in
     c.level_out.ensures
     ∙ ap (λ (n : ℕ). level_shown (c.from_long-price.result, n)) shares

@@ -21,10 +21,10 @@ returns-in-Ok-clause-levels c zero =
     let told = c.fill_levels.new.told in
     subst (λ (o : Option Side). IsSomeAnd o (λ s. OfReachedBook units unit (λ book. Fills (map level_shown (levels_of book c.args.symbol.now s)) old told c.in-Ok.count)))
     (sym c.in-Some.is ∙ c.from_byte.ensures)
-    (λ before Image Vs h honest.
-    let book = reached_book units unit before Vs in
+    (λ before Image V h honest.
+    let book = reached_book units unit before V in
     let side = c.in-Some.side in
-    let tells = c.in-Ok.ensures.levels units.limit (unit_history unit before) (Vs unit) (tracks_there units unit client there before h) (keeps_there units unit client there before h Image Vs honest) in
+    let tells = c.in-Ok.ensures.levels units.limit (unit_history unit before) V (tracks_there units unit client there before h) (keeps_there units unit client there before h Image V honest) in
     let listed = c.as_slice.ensures ∙ tells.levels
     ∙ ap (λ (l : List (ℕ × ℕ)). l ++ take (length old) (levels_of book c.from_eight-symbol.result side)) c.make-levels.ensures
     ∙ ap (λ (b : List ℕ). take (length old) (levels_of book b side)) c.from_eight-symbol.ensures in
@@ -38,6 +38,6 @@ returns-clause-memory c = λ want.
     let client = c.in-Some-unit.client.now in
     let there = c.in-Some-unit.ensures.there in
     subst (λ (o : Option Side). IsSomeAnd o (λ s. OfReachedBook units unit (λ book. IsSome (best book c.args.symbol.now s)))) (sym c.in-Some.is ∙ c.from_byte.ensures)
-    (λ before Image Vs h honest.
-    subst (λ (b : List ℕ). IsSome (best (reached_book units unit before Vs) b c.in-Some.side)) c.from_eight-symbol.ensures
-    (c.in-Err.ensures.memory refl units.limit (unit_history unit before) (Vs unit) (tracks_there units unit client there before h) (keeps_there units unit client there before h Image Vs honest)))
+    (λ before Image V h honest.
+    subst (λ (b : List ℕ). IsSome (best (reached_book units unit before V) b c.in-Some.side)) c.from_eight-symbol.ensures
+    (c.in-Err.ensures.memory refl units.limit (unit_history unit before) V (tracks_there units unit client there before h) (keeps_there units unit client there before h Image V honest)))

@@ -23,14 +23,14 @@ listed : (book : Book) → finite.len book.orders ≡ length (orders_of book)
 listed book = finite.len-entries book.orders ∙ sym (length-map (finite.entries book.orders) (λ e. e.1))
 
 pub returns-then-open-eq0-clause-orders : goal.returns-then-open-eq0-clause-orders
-returns-then-open-eq0-clause-orders c ok before Image Vs h honest =
+returns-then-open-eq0-clause-orders c ok before Image V h honest =
     let units = c.args.units.now in
     let unit = c.args.unit in
     let client = c.in-Some.client.now in
     let there = c.in-Some.ensures.there in
-    let book = reached_book units unit before Vs in
+    let book = reached_book units unit before V in
     let count : c.count_open-open.result ≡ length (orders_of book) =
-    c.count_open-open.ensures units.limit (unit_history unit before) (Vs unit) (tracks_there units unit client there before h) (keeps_there units unit client there before h Image Vs honest) ∙ listed book in
+    c.count_open-open.ensures units.limit (unit_history unit before) V (tracks_there units unit client there before h) (keeps_there units unit client there before h Image V honest) ∙ listed book in
     let none : (length (orders_of book) ≡ 0) ⊎ (length c.args.told.now ≡ 0) = elim c.then-open-eq0.branch [
       | then-open-eq0-via-then-open-eq0 w ↦ inl (sym count ∙ w.if-open-eq0.true)
       | then-open-eq0-via-else-open-eq0+then-is_empty w ↦ inr (eqb-true (length c.args.told.now) 0 (sym w.if-is_empty.ensures))
@@ -40,22 +40,22 @@ returns-then-open-eq0-clause-orders c ok before Image Vs h honest =
 pub returns-in-Err-clause-memory : goal.returns-in-Err-clause-memory
 returns-in-Err-clause-memory c = λ want. (
   has_place (length c.args.told.now) c.if-is_empty.ensures,
-  λ before Image Vs h honest.
+  λ before Image V h honest.
       let units = c.args.units.now in
       let unit = c.args.unit in
       let client = c.in-Some.client.now in
       let there = c.in-Some.ensures.there in
       let some = c.if-open-eq0.false in
-      let count = c.count_open-open.ensures units.limit (unit_history unit before) (Vs unit) (tracks_there units unit client there before h) (keeps_there units unit client there before h Image Vs honest) in
+      let count = c.count_open-open.ensures units.limit (unit_history unit before) V (tracks_there units unit client there before h) (keeps_there units unit client there before h Image V honest) in
       omega (arith, some, count),
 )
 
 pub returns-in-Ok-clause-orders : goal.returns-in-Ok-clause-orders
-returns-in-Ok-clause-orders c ok before Image Vs h honest =
+returns-in-Ok-clause-orders c ok before Image V h honest =
     let units = c.args.units.now in
     let unit = c.args.unit in
     let client = c.in-Some.client.now in
     let there = c.in-Some.ensures.there in
-    let are = c.in-Ok.ensures units.limit (unit_history unit before) (Vs unit) (tracks_there units unit client there before h) (keeps_there units unit client there before h Image Vs honest) in
-    fills_list (λ (order : Order). order_shown (Some order)) (orders_of (reached_book units unit before Vs)) c.as_slice.result.now c.args.told.now c.fill_orders.new.told c.len.result
+    let are = c.in-Ok.ensures units.limit (unit_history unit before) V (tracks_there units unit client there before h) (keeps_there units unit client there before h Image V honest) in
+    fills_list (λ (order : Order). order_shown (Some order)) (orders_of (reached_book units unit before V)) c.as_slice.result.now c.args.told.now c.fill_orders.new.told c.len.result
     (c.as_slice.ensures ∙ are) c.fill_orders.ensures (c.len.ensures ∙ ap length (sym c.as_slice.ensures))

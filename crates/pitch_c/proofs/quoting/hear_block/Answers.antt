@@ -21,7 +21,7 @@ returns-clause-quoted c zero =
             ∙ ap (heard_shown (header_for block)) (c.in-Ok.ensures.change before h);
         room = c.in-Ok.ensures.room;
       };
-      quotes_told = λ before Image Vs h honest.
-          fills_list quote_shown (quotes_of_block units.limit (Vs block.unit) (unit_history block.unit before) block) c.as_slice.result.now c.args.quotes.now c.fill_quotes.new.told c.len.result
-          (c.as_slice.ensures ∙ c.in-Ok.ensures.quotes told before Image Vs h honest) c.fill_quotes.ensures (c.len.ensures ∙ ap length (sym c.as_slice.ensures));
+      quotes_told = λ before Image V h honest.
+          fills_list quote_shown (quotes_of_block units.limit V (unit_history block.unit before) block) c.as_slice.result.now c.args.quotes.now c.fill_quotes.new.told c.len.result
+          (c.as_slice.ensures ∙ c.in-Ok.ensures.quotes told before Image V h honest) c.fill_quotes.ensures (c.len.ensures ∙ ap length (sym c.as_slice.ensures));
     }

@@ -19,7 +19,7 @@ returns-in_ok-print_heard-in-Follow-clause-prints g c =
     subst (λ (t : Task). PrintsBlock t (Follow c.print_heard.new.units) c.args.number w c.args.page.now.text v c.print_heard.new.page.text block) (sym c.in-Follow.is) (record {
       form_is = ap form.Follow heard.limit;
       known = heard.heard;
-      printed = λ before knows is. prints_text (form.Follow c.in-Follow.units.limit) before block w v c.args.page.now.text c.print_heard.new.page.text (line_after c.in-Follow.units.limit before block) (heard.printed before knows is) (λ Vs venues. refl);
+      printed = λ before knows is. prints_text (form.Follow c.in-Follow.units.limit) before block w v c.args.page.now.text c.print_heard.new.page.text (line_after c.in-Follow.units.limit before block) (heard.printed before knows is) refl;
     })
 
 pub returns-in_err-print_heard-in-Follow-clause-err : goal.returns-in_err-print_heard-in-Follow-clause-err

@@ -4,7 +4,6 @@ use Rattle.pitch_model.proofs.Results.{at_exit}
 use Rattle.unit_packets.specs.Blocks.{Block}
 use Rattle.unit_packets.specs.declared.header.Header.{Header}
 use Rattle.pitch_model.specs.History.{Raw}
-use Rattle.pitch_model.specs.Image.{image}
 use Rattle.heard_items.specs.Units.{unit_history}
 use Rattle.best_quotes.specs.Quoting.{quotes_of_block}
 use Rattle.best_quotes.specs.QuotesText.{quote_line}
@@ -37,8 +36,8 @@ returns-in_err-print_quotes-clause-err g c =
     let block = c.args.block.now in
     at_exit (λ (e : TaskError). FailsBlock e (Quotes c.args.units.now) c.args.number w c.args.page.now.text z block) c.from_residual-in_err-print_quotes.result Write c.from_residual-in_err-print_quotes.ensures
     (λ before knows is. puts_text (form.Quotes c.args.units.now.limit) before block w z c.args.page.now.text (flat_map (quote_line c.header-unit.result.unit) c.as_slice.result.now) c.in_err-print_quotes.ensures.err
-    (λ Vs venues. quotes_are c.args.units.now.limit c.header-unit.result.unit block before (Vs block.unit) c.as_slice.result.now c.hear.new.lines.items c.make-lines.result.items
-    (ap (λ (h : Header). h.unit) c.header-unit.ensures) c.as_slice.ensures (c.in_ok-hear.ensures.quotes before image Vs knows venues) c.make-lines.ensures))
+    (λ Image V honest. quotes_are c.args.units.now.limit c.header-unit.result.unit block before V c.as_slice.result.now c.hear.new.lines.items c.make-lines.result.items
+    (ap (λ (h : Header). h.unit) c.header-unit.ensures) c.as_slice.ensures (c.in_ok-hear.ensures.quotes before Image V knows honest) c.make-lines.ensures))
 
 pub returns-clause-prints : goal.returns-clause-prints
 returns-clause-prints g c =
@@ -50,6 +49,6 @@ returns-clause-prints g c =
       known = λ before knows. c.in_ok-hear.ensures.heard before knows;
       printed = λ before knows is.
           prints_text (form.Quotes c.args.units.now.limit) before block w z c.args.page.now.text c.print_quotes.new.page.text (flat_map (quote_line c.header-unit.result.unit) c.as_slice.result.now) c.in_ok-print_quotes.ensures.printed
-          (λ Vs venues. quotes_are c.args.units.now.limit c.header-unit.result.unit block before (Vs block.unit) c.as_slice.result.now c.hear.new.lines.items c.make-lines.result.items
-          (ap (λ (h : Header). h.unit) c.header-unit.ensures) c.as_slice.ensures (c.in_ok-hear.ensures.quotes before image Vs knows venues) c.make-lines.ensures);
+          (λ Image V honest. quotes_are c.args.units.now.limit c.header-unit.result.unit block before V c.as_slice.result.now c.hear.new.lines.items c.make-lines.result.items
+          (ap (λ (h : Header). h.unit) c.header-unit.ensures) c.as_slice.ensures (c.in_ok-hear.ensures.quotes before Image V knows honest) c.make-lines.ensures);
     }

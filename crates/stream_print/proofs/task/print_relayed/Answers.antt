@@ -26,7 +26,7 @@ returns-in_err-print_bytes-clause-err g c =
     let block = c.args.block.now in
     at_exit (λ (e : TaskError). FailsBlock e (Relay c.args.relays.now) c.args.number w c.args.page.now.text z block) c.from_residual-in_err-print_bytes.result Write c.from_residual-in_err-print_bytes.ensures
     (λ before knows is. puts_text (form.Relay c.args.relays.now.limit) before block w z c.args.page.now.text c.deref.result.now c.in_err-print_bytes.ensures.err
-    (λ Vs venues. c.deref.ensures.value ∙ all_bytes c.hear.new.out.items c.new-datagrams.result.items _ (c.in_ok-hear.ensures.sends before Vs knows venues) c.new-datagrams.ensures.items))
+    (λ V venue. c.deref.ensures.value ∙ all_bytes c.hear.new.out.items c.new-datagrams.result.items _ (c.in_ok-hear.ensures.sends before V knows venue) c.new-datagrams.ensures.items))
 
 pub returns-clause-prints : goal.returns-clause-prints
 returns-clause-prints g c =
@@ -38,5 +38,5 @@ returns-clause-prints g c =
       known = λ before knows. c.in_ok-hear.ensures.heard before knows;
       printed = λ before knows is.
           prints_text (form.Relay c.args.relays.now.limit) before block w z c.args.page.now.text c.print_bytes.new.self.text c.deref.result.now c.in_ok-print_bytes.ensures.printed
-          (λ Vs venues. c.deref.ensures.value ∙ all_bytes c.hear.new.out.items c.new-datagrams.result.items _ (c.in_ok-hear.ensures.sends before Vs knows venues) c.new-datagrams.ensures.items);
+          (λ V venue. c.deref.ensures.value ∙ all_bytes c.hear.new.out.items c.new-datagrams.result.items _ (c.in_ok-hear.ensures.sends before V knows venue) c.new-datagrams.ensures.items);
     }

@@ -39,7 +39,7 @@ returns-in_err-print_messages-clause-err g c =
     (λ before knows is. puts_text form.Show before block w z c.args.page.now.text text
     (subst (λ (t : List ℕ). PutsSome w z (c.args.page.now.text ++ t))
     (ap₂ ◌++◌ (ap (head_of c.args.number) c.header-header.ensures) (ap₂ message_lines (ap (λ (h : Header). h.sequence) c.header-header.ensures) c.raws.ensures.raws)) puts)
-    (λ Vs venues. ap (λ (n : ℕ). shown_head n block.unit block.sequence (length block.raws) ++ message_lines block.sequence block.raws) is))
+    (ap (λ (n : ℕ). shown_head n block.unit block.sequence (length block.raws) ++ message_lines block.sequence block.raws) is))
 
 pub returns-clause-prints : goal.returns-clause-prints
 returns-clause-prints g c =
@@ -58,5 +58,5 @@ returns-clause-prints g c =
           (subst (Prints w c.args.page.now.text z c.print_messages.new.page.text)
           (ap₂ ◌++◌ (ap (head_of c.args.number) c.header-header.ensures) (ap₂ message_lines (ap (λ (h : Header). h.sequence) c.header-header.ensures) c.raws.ensures.raws))
           (prints_more w v z c.args.page.now.text c.add_shown_head.new.self.text c.print_messages.new.page.text head lines first c.in_ok-print_messages.ensures.printed))
-          (λ Vs venues. ap (λ (n : ℕ). shown_head n block.unit block.sequence (length block.raws) ++ message_lines block.sequence block.raws) is);
+          (ap (λ (n : ℕ). shown_head n block.unit block.sequence (length block.raws) ++ message_lines block.sequence block.raws) is);
     }

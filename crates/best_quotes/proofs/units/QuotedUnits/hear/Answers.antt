@@ -19,10 +19,10 @@ returns-clause-heard c = rw (← c.self.view_is) (λ before heard.
     (rw c.limit-limit.ensures.value at c.in_ok-change.ensures.stands before (stood c before heard)))
 
 pub returns-clause-quotes : goal.returns-clause-quotes
-returns-clause-quotes c = rw (← c.self.view_is) (λ before Image Vs heard honest.
+returns-clause-quotes c = rw (← c.self.view_is) (λ before Image V heard honest.
     let block = c.args.block.now in
-    let there : Honest Image (Vs block.unit) (heard_block block (unit_history block.unit before)) = subst (Honest Image (Vs block.unit)) (history_same block before) (honest block.unit) in
-    rw c.limit-limit.ensures.value at c.in_ok-change.ensures.quotes before Image (Vs block.unit) (stood c before heard) there)
+    let there : Honest Image V (heard_block block (unit_history block.unit before)) = subst (Honest Image V) (history_same block before) honest in
+    rw c.limit-limit.ensures.value at c.in_ok-change.ensures.quotes before Image V (stood c before heard) there)
 
 pub returns-clause-change : goal.returns-clause-change
 returns-clause-change c = rw (← c.self.view_is) (λ before heard. rw c.limit-limit.ensures.value at c.in_ok-change.ensures.change before (stood c before heard))

@@ -4,8 +4,11 @@ use Rattle.unit_clients.specs.Clients.{HaveHeard}
 use Rattle.unit_clients.specs.Tables.{with_place}
 use Rattle.unit_clients.proofs.Hearing.{table_hears, all_still}
 use Rattle.pitch_model.proofs.Results.{on_err}
+use Rattle.pitch_model.specs.History.{Entry}
 use Rattle.pitch_model.specs.Honest.{Honest}
-use Rattle.heard_items.proofs.Units.{history_same, all_honest_before}
+use Rattle.heard_items.specs.HeardBlocks.{heard_block}
+use Rattle.heard_items.specs.Units.{unit_history}
+use Rattle.heard_items.proofs.Units.{history_same, honest_block}
 use Rattle.leveled_units.proofs.units.LeveledUnits.hear_quoted.Goals as goal
 
 pub returns-clause-heard : goal.returns-clause-heard
@@ -27,12 +30,13 @@ returns-in_err-heard-clause-err c = rw (← c.self.view_is) (
     (all_still table unit c.place_of.result.now slot c.place_of.ensures.there c.in_err-heard.ensures.err))
 
 pub returns-clause-quotes : goal.returns-clause-quotes
-returns-clause-quotes c = λ told. rw (← c.self.view_is) (λ before Image Vs heard honest.
+returns-clause-quotes c = λ told. rw (← c.self.view_is) (λ before Image V heard honest.
     let block = c.args.block.now in
     let was = c.place_of.result.now in
-    let kept = heard.keep.each block.unit was c.place_of.ensures.there Image (Vs block.unit) (all_honest_before Image Vs block before honest block.unit) in
-    rw c.limit-limit.ensures.value at c.in_ok-heard.ensures.quotes told Image (Vs block.unit) before block.unit (heard.clients.each block.unit was c.place_of.ensures.there)
-    (subst (Honest Image (Vs block.unit)) (history_same block before) (honest block.unit)) kept)
+    let E : List Entry = unit_history block.unit before in
+    let there : Honest Image V (heard_block block E) = subst (Honest Image V) (history_same block before) honest in
+    let kept = heard.keep.each block.unit was c.place_of.ensures.there Image V (honest_block Image V block E there) in
+    rw c.limit-limit.ensures.value at c.in_ok-heard.ensures.quotes told Image V before block.unit (heard.clients.each block.unit was c.place_of.ensures.there) there kept)
 
 pub returns-clause-untold : goal.returns-clause-untold
 returns-clause-untold c = λ untold. rw (← c.self.view_is) (λ before heard.

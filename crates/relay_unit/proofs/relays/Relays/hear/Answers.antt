@@ -25,10 +25,9 @@ returns-clause-sends c =
     let out = c.args.out.now.items in
     let out' = c.hear_at.new.out.items in
     let there = subst (λ (H : ℕ). AppendsThere H c.place_of.result.now block out out') c.limit-limit.ensures.value c.in_ok-change.ensures.sends in
-    subst (λ (r : Relays). AppendVenues r block out out') c.self.view_is (λ before Vs heard venues.
+    subst (λ (r : Relays). AppendVenues r block out out') c.self.view_is (λ before V heard venue.
     let H = c.self.inside.relays.limit in
-    there before (Vs block.unit) (stood c before heard)
-    (subst (IsVenue (Vs block.unit)) (history_same H block before) (venues block.unit)))
+    there before V (stood c before heard) (subst (IsVenue V) (history_same H block before) venue))
 
 pub returns-clause-change : goal.returns-clause-change
 returns-clause-change c = rw (← c.self.view_is) (λ before heard. rw c.limit-limit.ensures.value at c.in_ok-change.ensures.change before (stood c before heard))
