@@ -1,5 +1,5 @@
 -- What `hear` promises of a book, at an image of this feed that is taken.
-use Rattle.std.proofs.Common.{◌≡◌, ℕ, List, [], ◌∷◌, ◌++◌, Some, map, refl, sym, ap, ◌∙◌, arith, true}
+use Rattle.std.proofs.Common.{◌≡◌, ℕ, List, [], ◌∷◌, ◌++◌, Some, map, take, refl, sym, ap, ◌∙◌, arith, true}
 use Rattle.std.specs.List.{AllByRecursion}
 use Rattle.std.specs.Ordering.{nat_cmp}
 use Rattle.std.specs.FinMap as finite
@@ -23,8 +23,8 @@ use Rattle.heard_items.specs.Heard.{heard}
 use Rattle.heard_items.specs.Changes.{image_end}
 use Rattle.heard_items.specs.declared.change.ImageEnd.TheVariants.{Taken, Bad}
 use Rattle.heard_items.specs.declared.item.Item.TheVariants as item
-use Rattle.client_core.specs.layers.Items.{IsImage}
 use Rattle.client_core.specs.Tracks.{Tracks, Keeps}
+use Rattle.client_core.specs.Venues.{IsImage, IsVenue}
 use Rattle.client_core.specs.declared.client.UnitClient.{UnitClient}
 
 -- a venue that has accepted one Time message, of 9:30
@@ -61,6 +61,24 @@ kept : (c c' : UnitClient) → Tracks c 4 image_heard → Keeps c opening
     → ((Image : List Raw → ℕ → List Raw) (V : List Raw) → IsImage Image V → (H : ℕ) (E : List Entry) → Tracks c H E → Honest Image V (heard (item.SpinFinished 1) E) → Keeps c V → Keeps c' V)
     → Keeps c' opening
 kept c c' T K hears = hears image opening (λ s. image_book opening s bytes) 4 image_heard T honest K
+
+-- ---- An image in another form: this one has the long add where this feed's has the short one
+abbrev order : Raw
+order = 34 ∷ 0x21 ∷ 0 ∷ 0 ∷ 0 ∷ 0 ∷ 1 ∷ 0 ∷ 0 ∷ 0 ∷ 0 ∷ 0 ∷ 0 ∷ 0 ∷ 0x42 ∷ 100 ∷ 0 ∷ 0 ∷ 0 ∷ 0x5a ∷ 0x56 ∷ 0x5a ∷ 0x5a ∷ 0x54 ∷ 0x20 ∷ 0x10 ∷ 0x27 ∷ 0 ∷ 0 ∷ 0 ∷ 0 ∷ 0 ∷ 0 ∷ 1 ∷ []
+
+abbrev long_opening : List Raw
+long_opening = opening ++ order ∷ []
+
+abbrev long_image : List Entry
+long_image = SpinFinished 2 ∷ ImageMessages long_opening ∷ SpinReply 2 1 true ∷ Ticked (Some (Spin 2)) ∷ Advertised 2 ∷ SpinUp ∷ []
+
+-- it is the venue's too, whose images have the messages themselves
+of_long_images : IsVenue long_opening long_image
+of_long_images = record {
+  Image = λ V s. take s V;
+  are_images = λ s. refl;
+  honest = ((omega arith, refl), (tt, (tt, (tt, (omega arith, (tt, tt))))));
+}
 
 -- an image is bad where two orders were promised and none came
 bad : image_end 4 (ImageMessages opening ∷ SpinReply 2 2 true ∷ Ticked (Some (Spin 2)) ∷ Advertised 2 ∷ SpinUp ∷ []) (item.SpinFinished 2) ≡ Bad 2 0

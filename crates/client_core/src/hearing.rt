@@ -121,7 +121,8 @@ impl UnitClient {
     ghost use Rattle.client_core.specs.layers.Hearing.{Hears, HearsBlock, IsToldBy, OfBlock};
     ghost use Rattle.client_core.specs.layers.Hearing.{OfHistory};
     ghost use Rattle.client_core.specs.layers.Hearing.{Changes, KeepsBlock, KeepsImaged, OfReached};
-    ghost use Rattle.client_core.specs.layers.Items.{IsImage, NeedsNoMemory, message_count};
+    ghost use Rattle.client_core.specs.Venues.{IsImage};
+    ghost use Rattle.client_core.specs.layers.Items.{NeedsNoMemory, message_count};
     ghost use Rattle.client_core.specs.layers.Hearing.{NotesNothing, StillCanNote, KeepsNoteRoom};
     ghost use Rattle.client_core.specs.layers.Items.{CanNoteItem};
     ghost use Rattle.client_core.specs.layers.Bookkeeping.{HasRoom, IsImageReady};

@@ -3,17 +3,25 @@
 
 ghost use Rattle.std.specs.Prelude.{ℕ, ◌+◌, ◌≤◌, List, ◌++◌, length};
 ghost use Rattle.std.specs.List.{AllByRecursion};
-ghost use Rattle.pitch_model.specs.History.{Raw};
+ghost use Rattle.pitch_model.specs.History.{Entry, Raw};
+ghost use Rattle.pitch_model.specs.Honest.{Honest};
 ghost use Rattle.pitch_model.specs.Image.{image};
 ghost use Rattle.pitch_fields.specs.Fields.{AreBytes};
-ghost use Rattle.client_core.specs.layers.Items.{IsImage};
 ghost use Rattle.client_core.specs.Tracks.{Keeps};
+ghost use Rattle.client_core.specs.Venues.{IsImage, IsVenue};
 ghost use Rattle.client_core.specs.Client.{KeepsRoom, held_number, reached, spare_of};
 ghost use Rattle.client_core.specs.declared.client.UnitClient.{UnitClient};
 
 /// The images of this feed are what `hear` asks of images, wherever the venue's messages are bytes.
 pub fn images_of_bytes_are_images()
     ensures { (V : List Raw) → AllByRecursion AreBytes V → IsImage image V }
+{}
+
+/// A history that is honest with the images of this feed is one of a venue, wherever its messages
+/// are bytes.
+pub fn honest_histories_are_of_venues()
+    ensures { (V : List Raw) (E : List Entry)
+        → AllByRecursion AreBytes V → Honest image V E → IsVenue V E }
 {}
 
 /// A client that keeps to a venue's messages still does once the venue has accepted more, where its

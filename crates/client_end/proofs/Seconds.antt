@@ -7,6 +7,7 @@ use Rattle.pitch_model.specs.History.{Entry, Raw, Ticked}
 use Rattle.session_ends.specs.Ending.{Ending}
 use Rattle.client_core.specs.Tracks.{Tracks, Keeps}
 use Rattle.client_core.specs.declared.client.UnitClient.{UnitClient}
+use Rattle.client_core.proofs.Venues.{venue_by}
 use Rattle.client_end.specs.Parts.{PartsAre, ClientHeard}
 use Rattle.client_end.specs.Came.{EndSetup, EndState, ask_sent, client_asks}
 
@@ -15,7 +16,7 @@ pub ticked : (H : ℕ) (client client' : UnitClient) (ask : Option Ask) (E : Lis
     → ClientHeard H client E → ClientHeard H client' (Ticked ask ∷ E)
 ticked H client client' ask E tracks keeps has = record {
   tracks = tracks H E has.tracks;
-  keeps = λ V bytes h. keeps V (has.keeps V bytes h.1);
+  keeps = λ V v. keeps V (has.keeps V (venue_by V (Ticked ask ∷ E) E (λ Image h. h.1) v));
 }
 
 -- what it asks is what the definition asks

@@ -12,7 +12,7 @@ use Rattle.heard_items.specs.Heard.{heard_all}
 use Rattle.client_links.proofs.Spare.{spare_is_unheard}
 use Rattle.client_end.specs.layers.Hearing.{IsTold, HearsItems}
 use Rattle.client_end.specs.Parts.{ClientHeard}
-use Rattle.client_end.proofs.HeardItems.{honest_first}
+use Rattle.client_end.proofs.HeardItems.{venue_first}
 use Rattle.client_end.proofs.LinkItems.{link_told, told_spare}
 
 -- what was told, or its beginning, was heard
@@ -23,7 +23,7 @@ heard_part H client client' items told E same are hears has =
     let is : heard_all items E ≡ heard_all told E = sym (spare_is_unheard items E) ∙ ap (λ (xs : List Item). heard_all xs E) same in
     subst (ClientHeard H client') is (record {
       tracks = hears.tracks all H E has.tracks;
-      keeps = λ V bytes h. hears.keeps all V bytes H E has.tracks h (has.keeps V bytes (honest_first V items E all h));
+      keeps = λ V v. hears.keeps all V H E has.tracks v (has.keeps V (venue_first V items E all v));
     })
 
 told_of_link : (link : Ending) (none items : List Item) (piece : List ℕ) (es : List (Event Lookups)) → LinkStands link es → none ≡ []

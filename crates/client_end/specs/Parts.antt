@@ -1,14 +1,11 @@
 -- When the parts of an end are those of a state.
 use Rattle.std.specs.Prelude.{◌≡◌, ℕ, List, Option, None, Some}
-use Rattle.std.specs.List.{AllByRecursion}
-use Rattle.pitch_fields.specs.Fields.{AreBytes}
 use Rattle.pitch_model.specs.History.{Entry, Raw}
-use Rattle.pitch_model.specs.Honest.{Honest}
-use Rattle.pitch_model.specs.Image.{image}
 use Rattle.session_ends.specs.Closing.{Setup}
 use Rattle.session_ends.specs.Ending.{Ending}
 use Rattle.session_ends.specs.Events.{Event}
 use Rattle.client_core.specs.Tracks.{Tracks, Keeps}
+use Rattle.client_core.specs.Venues.{IsVenue}
 use Rattle.client_core.specs.declared.client.UnitClient.{UnitClient}
 use Rattle.client_links.specs.Linking.{Lookups, LinkStands}
 use Rattle.client_end.specs.Links.{gap_link, spin_link}
@@ -19,7 +16,7 @@ use Rattle.client_end.specs.declared.end.ClientEnd.{ClientEnd}
 -- holds are the messages of each venue of which that history speaks honestly
 pub record ClientHeard (H : ℕ) (client : UnitClient) (E : List Entry) : Type 0 where
   pub tracks : Tracks client H E
-  pub keeps : (V : List Raw) → AllByRecursion AreBytes V → Honest image V E → Keeps client V
+  pub keeps : (V : List Raw) → IsVenue V E → Keeps client V
 
 -- a link was made so and stands for what happened to it, or there is none
 abbrev pub LinkIs : Setup → Option Ending → Option (List (Event Lookups)) → Type 0

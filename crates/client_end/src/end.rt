@@ -2,15 +2,12 @@
 
 ghost use Rattle.std.specs.Prelude.{◌≡◌, ℕ, ◌∷◌, ◌++◌, [], List, OnOk, OnErr, IfOk};
 ghost use Rattle.std.specs.Prelude.{IsOk, None, is_some, take};
-ghost use Rattle.std.specs.List.{AllByRecursion};
-ghost use Rattle.pitch_fields.specs.Fields.{AreBytes};
 ghost use Rattle.pitch_model.specs.Book.{book_after};
 ghost use Rattle.pitch_model.specs.History.{Raw};
-ghost use Rattle.pitch_model.specs.Honest.{Honest};
-ghost use Rattle.pitch_model.specs.Image.{image};
 ghost use Rattle.pitch_model.specs.Reach.{reach};
 ghost use Rattle.pitch_model.specs.Status.{status_of};
 ghost use Rattle.heard_items.specs.Changes.{block_change};
+ghost use Rattle.client_core.specs.Venues.{IsVenue};
 
 use crate::session::{ask_through, hear_bytes, hear_cut, hear_second};
 use client_core::{Change, UnitClient};
@@ -258,8 +255,7 @@ impl ClientEnd {
     pub fn book(&self) -> &UnitBook
         // Of all that came, and of each venue of which it speaks honestly: the book is the one that
         // exactly the first n messages of the venue leave, n the reach.
-        ensures { OfEnd self.now (λ s before. (V : List Raw) → AllByRecursion AreBytes V
-            → Honest image V (end_history s before)
+        ensures { OfEnd self.now (λ s before. (V : List Raw) → IsVenue V (end_history s before)
             → result.now.book ≡ book_after (take (reach s.hold (end_history s before)) V)) }
     {
         self.client.book()

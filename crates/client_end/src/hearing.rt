@@ -5,7 +5,7 @@ ghost use Rattle.heard_items.specs.Changes.{IsItem};
 ghost use Rattle.client_core.specs.Client.{IsAsBefore};
 ghost use Rattle.client_end.specs.layers.Hearing.{HearsItems, IsTold};
 
-use client_core::{UnitClient, images_of_bytes_are_images};
+use client_core::UnitClient;
 use heard_items::Item;
 use pitch_fields::OutOfMemory;
 
@@ -26,7 +26,6 @@ fn hear_item(client: &mut UnitClient, item: &Item) -> Result<(), OutOfMemory>
     ensures hears { OnOk result (HearsItems client.old client.new (item.now ∷ [])) }
     ensures err { OnErr result (IsAsBefore client.old client.new) }
 {
-    images_of_bytes_are_images();
     if can_be_told(item) {
         let _change = client.hear(item)?;
     }

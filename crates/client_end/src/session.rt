@@ -21,7 +21,7 @@ ghost use Rattle.client_end.specs.Parts.{PartsAre, LinkIs, ClientHeard};
 ghost use Rattle.client_end.specs.Stands.{HearsInPart, has_closed};
 
 use crate::hearing::hear_told;
-use client_core::{UnitClient, images_of_bytes_are_images};
+use client_core::UnitClient;
 use client_links::{GapLink, ItemList, Link, Peer, ProxyPeer, SpinLink, SpinPeer};
 use heard_items::Item;
 use pitch_fields::OutOfMemory;
@@ -43,7 +43,6 @@ impl CutPeer for ProxyPeer {
     ghost down = { GrpDown };
 
     fn hear_down(client: &mut UnitClient) {
-        images_of_bytes_are_images();
         match client.hear(&Item::GrpDown) {
             Ok(_change) => {}
             Err(_) => unreachable!(),
@@ -55,7 +54,6 @@ impl CutPeer for SpinPeer {
     ghost down = { SpinDown };
 
     fn hear_down(client: &mut UnitClient) {
-        images_of_bytes_are_images();
         match client.hear(&Item::SpinDown) {
             Ok(_change) => {}
             Err(_) => unreachable!(),

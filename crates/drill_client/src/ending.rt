@@ -5,7 +5,7 @@ ghost use Rattle.pitch_fields.specs.Limits.{last_sequence};
 ghost use Rattle.pitch_model.specs.History.{Entry, Raw};
 ghost use Rattle.pitch_model.specs.Honest.{Honest};
 ghost use Rattle.client_core.specs.layers.Hearing.{Hears, KeepsImaged};
-ghost use Rattle.client_core.specs.layers.Items.{IsImage};
+ghost use Rattle.client_core.specs.Venues.{IsImage};
 ghost use Rattle.client_core.specs.Tracks.{Tracks, Keeps};
 ghost use Rattle.drill_client.specs.layers.Ending.{AsksForAll, IsAtEnd, whole_line};
 ghost use Rattle.drill_client.specs.layers.Following.{FollowsOn, ImageParts, IsImageOf};

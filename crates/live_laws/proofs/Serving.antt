@@ -5,7 +5,8 @@ use Rattle.std.proofs.lemmas.Option.{same_Some}
 use mathlib.Core.List.{IsPrefix}
 use Rattle.pitch_model.specs.History.{Raw}
 use Rattle.spin_path.specs.Paths.{all_said}
-use Rattle.client_end.specs.Came.{Came, Heard, SpinTook, SpinLost, SpinMade, SpinCut, GrpMade, GrpTook, GrpCut, GrpLost, Second}
+use Rattle.client_core.proofs.Venues.{own_venue}
+use Rattle.client_end.specs.Came.{Came, end_history, Heard, SpinTook, SpinLost, SpinMade, SpinCut, GrpMade, GrpTook, GrpCut, GrpLost, Second}
 use Rattle.live_units.specs.Coming.{came_to, end_setup}
 use Rattle.live_units.proofs.Books.{live_text_of_all}
 use Rattle.live_net.specs.declared.live.PeerPut.TheVariants as put
@@ -153,11 +154,11 @@ module _ (s : List VenueSetup) (numbered : AreNumbered s) where
 
 pub hearers_are_honest : HearersAreHonest
 hearers_are_honest s result old new served c came numbered hears = λ unit.
-    let feed = feed_of s served.now.came served.feeds unit in (
-      feed.bytes,
-      (served_is_whole (messages_of s served.now.came unit) (end_setup c unit) (came_to unit came) feed
-          (all_come s numbered served.run served.now served.runs served.pieces unit (came_to unit came) (hears unit))).honest,
-    )
+    let feed = feed_of s served.now.came served.feeds unit in
+    let V : List Raw = messages_of s served.now.came unit in
+    own_venue V (end_history (end_setup c unit) (came_to unit came)) feed.bytes
+    (served_is_whole V (end_setup c unit) (came_to unit came) feed
+    (all_come s numbered served.run served.now served.runs served.pieces unit (came_to unit came) (hears unit))).honest
 
 pub books_are_the_venues : BooksAreTheVenues
 books_are_the_venues s result old new served c counts before after out heard numbered apart all =

@@ -6,7 +6,6 @@ use Rattle.std.proofs.lemmas.Option.{none-some, same_Some}
 use Rattle.unit_packets.specs.Blocks.{Block}
 use Rattle.unit_packets.specs.Cutting.{blocks_of}
 use Rattle.pitch_model.specs.History.{Entry, Raw}
-use Rattle.pitch_model.specs.Image.{image}
 use Rattle.heard_items.specs.Heard.{heard_block}
 use Rattle.heard_items.specs.Units.{unit_history}
 use Rattle.client_end.specs.Came.{Came, Heard, GrpMade, GrpTook, GrpCut, GrpLost, SpinMade, SpinTook, SpinCut, SpinLost, Second}
@@ -137,9 +136,9 @@ disagreed (next ∷ before) d is = by (first_disagreement before) refl is (λ at
     by None at is earlier = came_tells before next.unit next.came d is
 
 pub of_no_venue : (s : LiveSetup) (V : List Raw) (came : List UnitCame) (d : Disagreement) → first_disagreement came ≡ Some d → IsHonestAt s came d.unit V → ⊥
-of_no_venue s V came d is honest =
-    are_of_no_venue image V (lines_history (came_to d.unit came)) d.sequence (disagreed came d is)
-    (lines_are_as_honest image V (end_setup s d.unit) (came_to d.unit came) honest.1)
+of_no_venue s V came d is venue =
+    are_of_no_venue venue.Image V (lines_history (came_to d.unit came)) d.sequence (disagreed came d is)
+    (lines_are_as_honest venue.Image V (end_setup s d.unit) (came_to d.unit came) venue.honest)
 
 -- ---- A block is compared
 module _ (s : LiveSetup) (block : Block) (came : List UnitCame) where

@@ -1,14 +1,12 @@
 -- The book that stands at the end of a unit.
 use Rattle.std.proofs.Common.{◌≡◌, ℕ, inl, inr, Bool, true, false, true≢false, ◌||◌, cond, nat_lt, List, [], ◌++◌, take, arith, Option, sym, ap, ◌∙◌}
-use Rattle.std.specs.List.{AllByRecursion, list_any}
+use Rattle.std.specs.List.{list_any}
 use Rattle.std.proofs.lemmas.Bool.{cases_lt, lt-ltb}
-use Rattle.pitch_fields.specs.Fields.{AreBytes}
 use Rattle.pitch_model.specs.Book.{Book, book_after, empty_book}
 use Rattle.pitch_model.specs.History.{Raw}
-use Rattle.pitch_model.specs.Honest.{Honest}
-use Rattle.pitch_model.specs.Image.{image}
 use Rattle.pitch_model.specs.Reach.{reach}
 use Rattle.feed_lines.specs.BookText.{book_text}
+use Rattle.client_core.specs.Venues.{IsVenue}
 use Rattle.client_end.specs.Came.{Came, EndSetup, end_history}
 use Rattle.stream_print.specs.Page.{Prints, PrintsSuch}
 use Rattle.stream_print.specs.Putting.{PutsSome}
@@ -42,13 +40,13 @@ module _ (s : EndSetup) (before : List Came) where
     printed = prints_none w t;
     such = record {
       book = empty_book;
-      right = λ V bytes honest. ap (λ (n : ℕ). book_after (take n V)) (sym (at_start none));
+      right = λ V venue. ap (λ (n : ℕ). book_after (take n V)) (sym (at_start none));
       text_is = sym (text_if false none empty_book);
     };
   }
 
   module _ (told : is_told_of s before ≡ true) (unit n : ℕ) (book : Book) (unit_is : unit ≡ s.unit) (reach_is : n ≡ reach s.hold (end_history s before))
-      (book_is : (V : List Raw) → AllByRecursion AreBytes V → Honest image V (end_history s before) → book ≡ book_after (take (reach s.hold (end_history s before)) V)) where
+      (book_is : (V : List Raw) → IsVenue V (end_history s before) → book ≡ book_after (take (reach s.hold (end_history s before)) V)) where
     is_text : IsBookText s before (book_text unit n book)
     is_text = record {
       book = book;

@@ -30,7 +30,7 @@ module _ (s : LiveSetup) (came : List UnitCame) (unit : ℕ) where
   text_at : has_unit s unit ≡ true → (text : List ℕ) → IsBookText (end_setup s unit) (came_to unit came) text → IsTextAt s came unit text
   text_at ours text is = record {
     book = is.book;
-    right = λ has V honest. is.right V honest.0 honest.1;
+    right = λ has V honest. is.right V honest;
     text_is = is.text_is ∙ sym (text_if true ours is.book);
   }
 

@@ -7,7 +7,6 @@ use Rattle.pitch_model.specs.declared.ask.Ask.{Ask}
 use Rattle.pitch_model.specs.declared.ask.Ask.TheVariants.{Gap, Spin}
 use Rattle.pitch_model.specs.History.{Entry, Raw, Message, Next, GrpUp, GrpDown, GapReply, SpinUp, SpinDown, Advertised, SpinReply, ImageMessages, SpinFinished, Ticked}
 use Rattle.pitch_model.specs.Honest.{Honest}
-use Rattle.pitch_model.specs.Image.{image}
 use Rattle.pitch_model.specs.Reach.{reach}
 use Rattle.heard_items.specs.Heard.{heard, heard_messages, heard_all}
 use Rattle.heard_items.specs.declared.item.Item.{Item}
@@ -170,11 +169,11 @@ module _ (H : ℕ) (E : List Entry) where
       ∙ ap (λ (o : Option ℕ). reached_by o (reach H E)) (sym some ∙ is) ∙ lowest_any (ends_of E) (reach H E)
 
 -- ---- The venue's
-module _ (V : List Raw) where
+module _ (Image : List Raw → ℕ → List Raw) (V : List Raw) where
   abbrev Later : List Entry → ℕ → Type 0
   Later E n = list_any (λ (number : ℕ). nat_le number n) (ends_of E) ≡ true → HasEndWithin V n
 
-  venues_end : (E : List Entry) (n : ℕ) → Honest image V E → list_any (λ (number : ℕ). nat_le number n) (ends_of E) ≡ true → HasEndWithin V n
+  venues_end : (E : List Entry) (n : ℕ) → Honest Image V E → list_any (λ (number : ℕ). nat_le number n) (ends_of E) ≡ true → HasEndWithin V n
   venues_end [] n honest has = absurd (true≢false (sym has))
   venues_end (Message sequence raw ∷ E) n honest has = by (λ later. venues_end E n honest.1 later) (is_end raw) refl has
     where
@@ -204,5 +203,5 @@ ends_are_venues s Vs came unit honest has = by (has_unit s unit) has
     E = history_at s unit came
 
     by : (b : Bool) → (b && is_ended s.hold E) ≡ true → HasEndWithin (Vs unit) (reach s.hold E)
-    by true has = venues_end (Vs unit) E (reach s.hold E) (honest unit).1 has
+    by true has = venues_end (honest unit).Image (Vs unit) E (reach s.hold E) (honest unit).honest has
     by false has = absurd (true≢false (sym has))

@@ -1,6 +1,6 @@
 -- Worked examples of what is printed of a unit and of two, computed by the definitions. What came
 -- stands newest first.
-use Rattle.std.proofs.Common.{◌≡◌, ℕ, true, false, List, [], ◌∷◌, ◌++◌, refl, sym, ap, ◌∙◌, arith, codes}
+use Rattle.std.proofs.Common.{◌≡◌, ℕ, true, false, List, [], ◌∷◌, ◌++◌, refl, sym, ap, ◌∙◌, arith, codes, take}
 use Rattle.std.specs.Fmt.{digits}
 use Rattle.unit_packets.specs.Blocks.{Block}
 use Rattle.unit_packets.specs.Cutting.{blocks_of, blocks_by, rest_of, rest_by}
@@ -132,13 +132,13 @@ abbrev contradictory : List UnitCame
 contradictory = with_blocks both (first_of 7 one ∷ first_of 2 one ∷ first_of 7 another ∷ []) []
 
 no_venue_is_of_both : (V : List (List ℕ)) → IsHonestAt both contradictory 7 V → ⊥
-no_venue_is_of_both V (bytes, honest) = let both_are = sym honest.0 ∙ honest.1.0 in cc
+no_venue_is_of_both V venue = let both_are = sym venue.honest.0 ∙ venue.honest.1.0 in cc
 
 -- the book of unit 2 is that of its message all the same
 the_other_units_book_stands : (text : List ℕ) → AreBooksBelow 8 both contradictory text → (book : Book) × (text ≡ book_text 2 1 (book_after (one ∷ [])) ++ (book_text 7 1 book ++ []))
 unfolding reach_of held_count named_below
 the_other_units_book_stands text is =
-    let two : is.books 2 ≡ book_after (one ∷ []) = is.right 2 (omega arith) refl (one ∷ []) (((omega arith, (omega arith, tt)), tt), (refl, tt)) in
+    let two : is.books 2 ≡ book_after (one ∷ []) = is.right 2 (omega arith) refl (one ∷ []) (record { Image = λ V s. take s V; are_images = λ s. refl; honest = (refl, tt) }) in
     (is.books 7, is.text_is ∙ ap (λ (b : Book). book_text 2 1 b ++ (book_text 7 1 (is.books 7) ++ [])) two)
 
 -- ---- A datagram

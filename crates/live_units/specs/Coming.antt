@@ -3,16 +3,14 @@
 use Rattle.std.specs.Prelude.{◌≡◌, ℕ, ◌+◌, ◌==◌, Bool, true, false, ◌&&◌, not, List, [], ◌∷◌}
 use Rattle.std.specs.Prelude.{◌++◌, ◌<◌, ◌≤◌, ◌^◌, is_some, length, take, if◌then◌else◌}
 use Rattle.std.specs.List.{AllByRecursion, count_by, flat_map, list_any}
-use Rattle.pitch_fields.specs.Fields.{AreBytes}
 use Rattle.unit_packets.specs.Blocks.{Block}
 use Rattle.unit_packets.specs.Cutting.{blocks_of, rest_of}
 use Rattle.pitch_model.specs.Book.{Book, book_after}
 use Rattle.pitch_model.specs.History.{Entry, Raw}
-use Rattle.pitch_model.specs.Honest.{Honest}
-use Rattle.pitch_model.specs.Image.{image}
 use Rattle.pitch_model.specs.Reach.{reach}
 use Rattle.feed_lines.specs.BookText.{book_text}
 use Rattle.session_ends.specs.declared.account.Account.{Account}
+use Rattle.client_core.specs.Venues.{IsVenue}
 use Rattle.client_end.specs.Came.{Came, EndSetup, EndState, GrpCut, Heard, SpinCut}
 use Rattle.client_end.specs.Came.{end_after, end_history}
 use Rattle.sending_end.specs.Waiting.{link_of}
@@ -129,8 +127,7 @@ has_book s came unit = has_unit s unit && is_told_of (end_setup s unit) (came_to
 
 -- what a unit's client heard speaks of these messages of its venue alone
 abbrev pub IsHonestAt : LiveSetup → List UnitCame → ℕ → List Raw → Type 0
-IsHonestAt s came unit V =
-    AllByRecursion AreBytes V × Honest image V (history_at s unit came)
+IsHonestAt s came unit V = IsVenue V (history_at s unit came)
 
 -- for each venue of which a unit's history speaks honestly, the book is what the first of its
 -- messages leave, up to the reach

@@ -1,14 +1,12 @@
 -- A unit of a live client, and what came to it.
 use Rattle.std.specs.Prelude.{◌≡◌, ◌≢◌, ◌⊎◌, ℕ, List, [], ◌∷◌, ◌++◌, Option, Result, OnOk, OnErr}
 use Rattle.std.specs.Prelude.{IfOk, None, Some, drop, min, take, if◌then◌else◌}
-use Rattle.std.specs.List.{AllByRecursion, list_any}
-use Rattle.pitch_fields.specs.Fields.{AreBytes}
+use Rattle.std.specs.List.{list_any}
 use Rattle.pitch_model.specs.Book.{Book, book_after}
 use Rattle.pitch_model.specs.History.{Raw}
-use Rattle.pitch_model.specs.Honest.{Honest}
-use Rattle.pitch_model.specs.Image.{image}
 use Rattle.pitch_model.specs.Reach.{reach}
 use Rattle.feed_lines.specs.BookText.{book_text}
+use Rattle.client_core.specs.Venues.{IsVenue}
 use Rattle.client_end.specs.Came.{Came, EndSetup, GrpCut, SpinCut, Second, end_history}
 use Rattle.sending_end.specs.Waiting.{lost, took}
 use Rattle.sending_end.specs.Stands.{NoneWaits, Passes, SendingStands, WaitsStill}
@@ -96,7 +94,7 @@ pub record TakesPiece (u u' : LiveUnit) (session : Session) (piece : List ℕ)
 -- history speaks honestly, the book is what the first messages leave, up to the reach
 pub record IsBookText (s : EndSetup) (before : List Came) (text : List ℕ) : Type 0 where
   pub book : Book
-  pub right : (V : List Raw) → AllByRecursion AreBytes V → Honest image V (end_history s before)
+  pub right : (V : List Raw) → IsVenue V (end_history s before)
       → book ≡ book_after (take (reach s.hold (end_history s before)) V)
   pub text_is : text ≡ (if is_told_of s before
       then book_text s.unit (reach s.hold (end_history s before)) book else [])

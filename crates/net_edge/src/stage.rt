@@ -27,6 +27,7 @@ ghost use Rattle.net_edge.specs.layers.Ends.{and_end, demo_venue, has_end, no_en
 
 use crate::end_set::EndSet;
 use crate::venue::Venue;
+use client_core::honest_histories_are_of_venues;
 use order_book::UnitBook;
 use pitch_fields::OutOfMemory;
 use pitch_io::{LinkEnd, NetTaken};
@@ -304,6 +305,7 @@ impl<V: Venue> Stage<V> {
             ≡ book_after (take (reach hold_limit w.client.heard) w.venue.messages) }
     {
         self.venue.accepted_are_messages();
+        honest_histories_are_of_venues();
         self.client.book()
     }
 }

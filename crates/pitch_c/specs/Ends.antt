@@ -3,18 +3,15 @@
 use Rattle.std.specs.Prelude.{◌≡◌, ◌≤◌, ◌==◌, ◌++◌, ◌+◌, nat_lt, ℕ, List, [], length, take, drop}
 use Rattle.std.specs.Prelude.{min, replicate, Option, None, Some, is_some, IfSome, if◌then◌else◌}
 use Rattle.std.specs.Option.{IsSomeAnd}
-use Rattle.std.specs.List.{AllByRecursion}
 use Rattle.std.specs.FinMap as map
-use Rattle.pitch_fields.specs.Fields.{AreBytes}
 use Rattle.pitch_fields.specs.Side.{side_of}
 use Rattle.pitch_model.specs.Book.{Book, book_after}
 use Rattle.pitch_model.specs.History.{Raw}
-use Rattle.pitch_model.specs.Honest.{Honest}
-use Rattle.pitch_model.specs.Image.{image}
 use Rattle.pitch_model.specs.Levels.{best}
 use Rattle.pitch_model.specs.Reach.{reach}
 use Rattle.pitch_model.specs.Status.{status_of}
 use Rattle.unit_packets.specs.Cutting.{blocks_of, rest_of}
+use Rattle.client_core.specs.Venues.{IsVenue}
 use Rattle.client_end.specs.Came.{Second, end_after, end_history}
 use Rattle.sending_end.specs.Stands.{SendingStands, OfSending, StaysSo, Passes, LosesAll}
 use Rattle.sending_end.specs.Stands.{HearsBlocks, HearsBegun, NoneWaits, waiting}
@@ -133,8 +130,7 @@ TellEndStatus e told =
 -- of whatever came to it, and of each venue of which that speaks honestly, the answer is read off
 -- the book of the first n messages, n the reach
 abbrev pub OfEndBook : SendingEnd → (Book → Type 0) → Type 0
-OfEndBook e P = OfSending e (λ s before. (V : List Raw) → AllByRecursion AreBytes V
-    → Honest image V (end_history s before)
+OfEndBook e P = OfSending e (λ s before. (V : List Raw) → IsVenue V (end_history s before)
     → P (book_after (take (reach s.hold (end_history s before)) V)))
 
 abbrev pub TellEndBest : SendingEnd → List ℕ → ℕ → BestOut → Type 0

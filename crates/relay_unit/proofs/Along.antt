@@ -7,44 +7,44 @@ use Rattle.pitch_messages.specs.declared.session.SessionMessage.TheVariants.{Log
 use Rattle.pitch_messages.specs.declared.session.SessionError.{SessionError}
 use Rattle.pitch_model.specs.History.{Entry, Raw, ImageMessages}
 use Rattle.pitch_model.specs.Honest.{Honest}
-use Rattle.pitch_model.specs.Image.{image}
 use Rattle.heard_items.specs.declared.change.ImageEnd.{ImageEnd}
 use Rattle.heard_items.specs.declared.change.ImageEnd.TheVariants as end
 use Rattle.client_core.specs.declared.client.UnitClient.{UnitClient}
 use Rattle.client_core.specs.Tracks.{Tracks, Keeps}
 use Rattle.relay_unit.specs.Hearing.{is_of_session, heard_told, heard_unsequenced, heard_session}
-use Rattle.relay_unit.specs.RelayText.{IsVenue}
+use Rattle.client_core.specs.Venues.{IsVenue}
+use Rattle.client_core.proofs.Venues.{venue_by}
 use Rattle.relay_unit.specs.layers.Changing.{raw_end, end_or, session_end}
 use Rattle.relay_unit.specs.layers.Sending.{SendsOn}
 
 -- ---- What came before is honest
-honest_told : (V : List Raw) (read : Result SessionMessage SessionError) (E : List Entry) → Honest image V (heard_told read E) → Honest image V E
-honest_told V (Ok (SpinAvailable sequence)) E h = h.1
-honest_told V (Ok (SpinReply sequence orders status)) E h = h.1
-honest_told V (Ok (SpinFinished sequence)) E h = h.1
-honest_told V (Ok (Login sub user password)) E h = h
-honest_told V (Ok (LoginReply status)) E h = h
-honest_told V (Ok (GapRequest unit sequence count)) E h = h
-honest_told V (Ok (GapReply unit sequence count status)) E h = h
-honest_told V (Ok (SpinRequest sequence)) E h = h
-honest_told V (Err error) E h = h
+honest_told : (Image : List Raw → ℕ → List Raw) (V : List Raw) (read : Result SessionMessage SessionError) (E : List Entry) → Honest Image V (heard_told read E) → Honest Image V E
+honest_told Image V (Ok (SpinAvailable sequence)) E h = h.1
+honest_told Image V (Ok (SpinReply sequence orders status)) E h = h.1
+honest_told Image V (Ok (SpinFinished sequence)) E h = h.1
+honest_told Image V (Ok (Login sub user password)) E h = h
+honest_told Image V (Ok (LoginReply status)) E h = h
+honest_told Image V (Ok (GapRequest unit sequence count)) E h = h
+honest_told Image V (Ok (GapReply unit sequence count status)) E h = h
+honest_told Image V (Ok (SpinRequest sequence)) E h = h
+honest_told Image V (Err error) E h = h
 
-honest_raw : (V : List Raw) (raw : Raw) (E : List Entry) → Honest image V (heard_unsequenced raw E) → Honest image V E
-honest_raw V raw E = by (is_of_session (kind_of raw))
+honest_raw : (Image : List Raw → ℕ → List Raw) (V : List Raw) (raw : Raw) (E : List Entry) → Honest Image V (heard_unsequenced raw E) → Honest Image V E
+honest_raw Image V raw E = by (is_of_session (kind_of raw))
   where
-    by : (t : Bool) → Honest image V (cond t (heard_told (session_reads raw) E) (ImageMessages (raw ∷ []) ∷ E)) → Honest image V E
-    by true h = honest_told V (session_reads raw) E h
+    by : (t : Bool) → Honest Image V (cond t (heard_told (session_reads raw) E) (ImageMessages (raw ∷ []) ∷ E)) → Honest Image V E
+    by true h = honest_told Image V (session_reads raw) E h
     by false h = h.1
 
-pub honest_session : (V : List Raw) (raws : List Raw) (E : List Entry) → Honest image V (heard_session raws E) → Honest image V E
-honest_session V [] E h = h
-honest_session V (raw ∷ raws) E h = honest_raw V raw E (honest_session V raws (heard_unsequenced raw E) h)
+pub honest_session : (Image : List Raw → ℕ → List Raw) (V : List Raw) (raws : List Raw) (E : List Entry) → Honest Image V (heard_session raws E) → Honest Image V E
+honest_session Image V [] E h = h
+honest_session Image V (raw ∷ raws) E h = honest_raw Image V raw E (honest_session Image V raws (heard_unsequenced raw E) h)
 
 pub venue_raw : (V : List Raw) (raw : Raw) (E : List Entry) → IsVenue V (heard_unsequenced raw E) → IsVenue V E
-venue_raw V raw E v = record { bytes = v.bytes; honest = honest_raw V raw E v.honest }
+venue_raw V raw E = venue_by V (heard_unsequenced raw E) E (λ Image. honest_raw Image V raw E)
 
 pub venue_session : (V : List Raw) (raws : List Raw) (E : List Entry) → IsVenue V (heard_session raws E) → IsVenue V E
-venue_session V raws E v = record { bytes = v.bytes; honest = honest_session V raws E v.honest }
+venue_session V raws E = venue_by V (heard_session raws E) E (λ Image. honest_session Image V raws E)
 
 -- ---- Part of a block was heard
 -- `now` was heard of all messages `raws` that come after E, and `rest` is left

@@ -1,20 +1,13 @@
 -- What `relay` writes: for each block the datagrams of what it added, under the relay's own
 -- sequences from 1.
 use Rattle.std.specs.Prelude.{ℕ, List, []}
-use Rattle.std.specs.List.{concat, AllByRecursion}
-use Rattle.pitch_fields.specs.Fields.{AreBytes}
+use Rattle.std.specs.List.{concat}
 use Rattle.unit_packets.specs.Blocks.{Block}
 use Rattle.pitch_model.specs.History.{Entry, Raw}
-use Rattle.pitch_model.specs.Honest.{Honest}
-use Rattle.pitch_model.specs.Image.{image}
+use Rattle.client_core.specs.Venues.{IsVenue}
 use Rattle.feed_lines.specs.Texts.{texts_after}
 use Rattle.relay_unit.specs.Hearing.{relay_heard, relay_history}
 use Rattle.relay_unit.specs.Relayed.{relayed_count, relayed_datagrams}
-
--- V are messages of a venue, and a history speaks of no others
-pub record IsVenue (V : List Raw) (E : List Entry) : Type 0 where
-  pub bytes : AllByRecursion AreBytes V
-  pub honest : Honest image V E
 
 -- `Vs` gives the messages of each unit's venue, and the blocks speak of no others
 abbrev pub AreRelayVenues : ℕ → (ℕ → List Raw) → List Block → Type 0

@@ -6,7 +6,7 @@ use Rattle.pitch_model.specs.History.{Entry, Raw}
 use Rattle.client_core.specs.Tracks.{Tracks, Keeps}
 use Rattle.client_core.specs.Client.{current_book}
 use Rattle.relay_unit.specs.Relayed.{relayed_count}
-use Rattle.relay_unit.specs.RelayText.{IsVenue}
+use Rattle.client_core.specs.Venues.{IsVenue}
 use Rattle.relay_unit.specs.declared.relay.Relay.{Relay}
 use Rattle.relay_unit.specs.declared.relay.RelayError.{RelayError}
 use Rattle.relay_unit.specs.declared.relay.RelayError.TheVariants.{SequencesSpent, OutOfMemory}

@@ -2,16 +2,13 @@
 
 ghost use Rattle.std.specs.Prelude.{◌≡◌, ◌+◌, ◌∷◌, ◌++◌, [], ℕ, List, None, OnOk, OnErr, IfOk};
 ghost use Rattle.std.specs.Prelude.{IsOk, is_some, length, min, take, drop, if◌then◌else◌};
-ghost use Rattle.std.specs.List.{AllByRecursion};
-ghost use Rattle.pitch_fields.specs.Fields.{AreBytes};
 ghost use Rattle.pitch_model.specs.Book.{book_after};
 ghost use Rattle.pitch_model.specs.History.{Raw};
-ghost use Rattle.pitch_model.specs.Honest.{Honest};
-ghost use Rattle.pitch_model.specs.Image.{image};
 ghost use Rattle.pitch_model.specs.Reach.{reach};
 ghost use Rattle.pitch_model.specs.Status.{status_of};
 ghost use Rattle.unit_packets.specs.Cutting.{blocks_of, rest_of};
 ghost use Rattle.heard_items.specs.Changes.{block_change};
+ghost use Rattle.client_core.specs.Venues.{IsVenue};
 
 use crate::queue::{drop_sent, keep_where, take_front};
 use crate::session::Session;
@@ -354,8 +351,7 @@ impl SendingEnd {
     pub fn book(&self) -> &UnitBook
         // Of all that came, and of each venue of which it speaks honestly: the book is the one that
         // exactly the first n messages of the venue leave, n the reach.
-        ensures { OfSending self.now (λ s before. (V : List Raw) → AllByRecursion AreBytes V
-            → Honest image V (end_history s before)
+        ensures { OfSending self.now (λ s before. (V : List Raw) → IsVenue V (end_history s before)
             → result.now.book ≡ book_after (take (reach s.hold (end_history s before)) V)) }
     {
         self.end.book()

@@ -11,7 +11,8 @@ use Rattle.feed_lines.specs.Texts.{texts_after}
 use Rattle.feed_lines.proofs.Texts.{texts_none, texts_first}
 use Rattle.best_quotes.specs.QuotesText.{quoted_after, quotes_text}
 use Rattle.relay_unit.specs.Hearing.{relay_heard, relay_history}
-use Rattle.relay_unit.specs.RelayText.{IsVenue, AreRelayVenues, relayed_after, relay_text}
+use Rattle.client_core.specs.Venues.{IsVenue}
+use Rattle.relay_unit.specs.RelayText.{AreRelayVenues, relayed_after, relay_text}
 use Rattle.relay_unit.proofs.Speaking.{venue_before}
 use Rattle.stream_print.specs.Texts.{IsBlockText, AreTexts, AreTextsAfter, BeginTextsAfter}
 use Rattle.stream_print.specs.declared.stream_form.StreamForm.{StreamForm}

@@ -9,7 +9,8 @@ use Rattle.feed_lines.specs.Follow.{line_after}
 use Rattle.feed_lines.specs.Show.{shown_after, show_text}
 use Rattle.best_quotes.specs.QuotesText.{quoted_after}
 use Rattle.relay_unit.specs.Hearing.{relay_history}
-use Rattle.relay_unit.specs.RelayText.{IsVenue, relayed_after}
+use Rattle.client_core.specs.Venues.{IsVenue}
+use Rattle.relay_unit.specs.RelayText.{relayed_after}
 use Rattle.stream_print.specs.Carriers.{carried_blocks, with_counts}
 use Rattle.stream_print.specs.Followed.{IsFollowed}
 use Rattle.stream_print.specs.declared.carrier.Carrier.{Carrier}

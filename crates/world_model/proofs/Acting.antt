@@ -6,7 +6,6 @@ use Rattle.std.specs.Option.{option_map}
 use Rattle.std.proofs.lemmas.Option.{get_or_from_slice_get, slice_get-map, slice_get_within}
 use Rattle.std.proofs.lemmas.List.{drop-map, map-append, take_more}
 use Rattle.pitch_fields.proofs.Lists.{all_follows}
-use Rattle.pitch_fields.specs.Fields.{AreBytes}
 use Rattle.pitch_io.specs.declared.line.Line.{Line}
 use Rattle.pitch_messages.specs.Room.{Roomy}
 use Rattle.pitch_text.specs.declared.command.Command.{Command}
@@ -17,8 +16,6 @@ use Rattle.unit_packets.specs.Cutting.{blocks_of}
 use Rattle.unit_packets.specs.Packing.{bytes_in}
 use Rattle.pitch_model.specs.Book.{Book, book_after}
 use Rattle.pitch_model.specs.History.{Raw}
-use Rattle.pitch_model.specs.Honest.{Honest}
-use Rattle.pitch_model.specs.Image.{image}
 use Rattle.pitch_model.specs.Reach.{reach}
 use Rattle.pitch_model.specs.Status.{status_of}
 use Rattle.pitch_model.specs.declared.status.Status.{Status}
@@ -27,6 +24,8 @@ use Rattle.spin_path.specs.PathLaws.{HasWholeImages}
 use Rattle.venue_core.specs.Refusals.{IsAnswer, refusal}
 use Rattle.venue_core.specs.declared.error.VenueError.{VenueError}
 use Rattle.venue_core.specs.declared.error.VenueError.TheVariants as errors
+use Rattle.client_core.specs.Venues.{IsVenue}
+use Rattle.client_core.proofs.Venues.{own_venue}
 use Rattle.client_end.specs.Came.{Came, EndSetup, EndState, end_after, end_history, end_step}
 use Rattle.client_end.specs.Parts.{EndIs}
 use Rattle.sending_end.specs.Waiting.{waits_for_proxy, waits_for_spin_server}
@@ -123,9 +122,10 @@ module _ (w : World) (s : State) (has : WorldHas w s) where
         (datagrams_on s line) (line_out w.unit w.limits s line has.sound))
 
     -- the book of the client's end
-    pub book_is : (book : Book) → OfSending w.client (λ c before. (M : List Raw) → AllByRecursion AreBytes M → Honest image M (end_history c before) → book ≡ book_after (take (reach c.hold (end_history c before)) M)) → book ≡ client_book w.limits s
+    pub book_is : (book : Book) → OfSending w.client (λ c before. (M : List Raw) → IsVenue M (end_history c before) → book ≡ book_after (take (reach c.hold (end_history c before)) M)) → book ≡ client_book w.limits s
     book_is book holds =
-        seen_client (λ c now. (M : List Raw) → AllByRecursion AreBytes M → Honest image M now.heard → book ≡ book_after (take (reach c.hold now.heard) M)) holds s.venue.messages has.is.venue.market.venue.bytes whole.honest
+        seen_client (λ c now. (M : List Raw) → IsVenue M now.heard → book ≡ book_after (take (reach c.hold now.heard) M)) holds s.venue.messages
+        (own_venue s.venue.messages s.client.heard has.is.venue.market.venue.bytes whole.honest)
 
   -- ---- A part of a verb
   module _ (venue : VenueEnd) (new : VenueCame) (stands : VenueIs V venue (venue_step V new s.venue)) where

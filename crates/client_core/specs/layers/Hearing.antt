@@ -10,7 +10,7 @@ use Rattle.heard_items.specs.Changes.{block_change}
 use Rattle.heard_items.specs.HeardBlocks.{heard_block}
 use Rattle.heard_items.specs.declared.change.Change.{Change}
 use Rattle.client_core.specs.layers.Blocks.{Carries}
-use Rattle.client_core.specs.layers.Items.{IsImage}
+use Rattle.client_core.specs.Venues.{IsImage}
 use Rattle.client_core.specs.Client.{held_number}
 use Rattle.client_core.specs.Tracks.{Tracks, Keeps}
 use Rattle.client_core.specs.declared.client.UnitClient.{UnitClient}

@@ -1,13 +1,7 @@
 -- An item that is heard.
-use Rattle.std.specs.Prelude.{◌≡◌, ℕ, ◌+◌, ◌≤◌, List, length, take}
-use Rattle.pitch_model.specs.Book.{book_after}
-use Rattle.pitch_model.specs.History.{Raw}
+use Rattle.std.specs.Prelude.{ℕ, ◌+◌, ◌≤◌, length}
 use Rattle.heard_items.specs.declared.item.Item.{Item}
 use Rattle.heard_items.specs.declared.item.Item.TheVariants as item
-
--- `Image V s` leaves the book that the first s of the messages V leave
-abbrev pub IsImage : (List Raw → ℕ → List Raw) → List Raw → Type 0
-IsImage Image V = (s : ℕ) → book_after (Image V s) ≡ book_after (take s V)
 
 -- how many messages an item has that are to be applied
 abbrev pub message_count : Item → ℕ

@@ -1,14 +1,12 @@
 -- What a client hears of what its links tell.
 use Rattle.std.specs.Prelude.{ℕ, List}
 use Rattle.std.specs.List.{AllByRecursion}
-use Rattle.pitch_fields.specs.Fields.{AreBytes}
 use Rattle.heard_items.specs.Heard.{heard_all}
 use Rattle.pitch_model.specs.History.{Entry, Raw}
-use Rattle.pitch_model.specs.Honest.{Honest}
-use Rattle.pitch_model.specs.Image.{image}
 use Rattle.heard_items.specs.declared.item.Item.{Item}
 use Rattle.heard_items.specs.declared.item.Item.TheVariants as item
 use Rattle.client_core.specs.Tracks.{Tracks, Keeps}
+use Rattle.client_core.specs.Venues.{IsVenue}
 use Rattle.client_core.specs.declared.client.UnitClient.{UnitClient}
 
 -- an item that a link can tell: messages with sequences, and heartbeats, come on lines alone
@@ -28,5 +26,5 @@ pub record HearsItems (client client' : UnitClient) (items : List Item) : Type 0
   pub tracks : AllByRecursion IsTold items
       → (H : ℕ) (E : List Entry) → Tracks client H E → Tracks client' H (heard_all items E)
   pub keeps : AllByRecursion IsTold items
-      → (V : List Raw) → AllByRecursion AreBytes V → (H : ℕ) (E : List Entry)
-      → Tracks client H E → Honest image V (heard_all items E) → Keeps client V → Keeps client' V
+      → (V : List Raw) (H : ℕ) (E : List Entry)
+      → Tracks client H E → IsVenue V (heard_all items E) → Keeps client V → Keeps client' V

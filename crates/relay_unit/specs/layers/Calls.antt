@@ -6,7 +6,8 @@ use Rattle.heard_items.specs.declared.change.Change.{Change}
 use Rattle.relay_unit.specs.layers.Changing.{merged_change}
 use Rattle.relay_unit.specs.Following.{HasSent, SendsMore, CountsBoth}
 use Rattle.relay_unit.specs.Hearing.{relay_heard, relay_history}
-use Rattle.relay_unit.specs.RelayText.{IsVenue, relayed_after, sent_up_to}
+use Rattle.client_core.specs.Venues.{IsVenue}
+use Rattle.relay_unit.specs.RelayText.{relayed_after, sent_up_to}
 use Rattle.relay_unit.specs.Relayed.{relayed_count, relayed_datagrams}
 use Rattle.relay_unit.specs.Relays.{Relays, HaveRelayed}
 use Rattle.relay_unit.specs.Sparing.{HasHeard, IsSpentBy, messages_heard}

@@ -7,7 +7,7 @@ use Rattle.pitch_model.specs.History.{Entry, Raw}
 use Rattle.heard_items.specs.declared.change.Change.{Change}
 use Rattle.relay_unit.specs.layers.Changing.{merged_change}
 use Rattle.relay_unit.specs.Hearing.{relay_heard, relay_history}
-use Rattle.relay_unit.specs.RelayText.{IsVenue}
+use Rattle.client_core.specs.Venues.{IsVenue}
 use Rattle.relay_unit.specs.Relayed.{relayed_count, relayed_datagrams}
 use Rattle.relay_unit.specs.Relays.{StandsAt, IsRelay}
 use Rattle.relay_unit.specs.Sparing.{IsSpentBy, messages_heard}

@@ -16,7 +16,7 @@ use Rattle.relay_unit.specs.Hearing.{heard_unsequenced, relay_heard}
 use Rattle.relay_unit.specs.layers.Changing.{raw_end}
 use Rattle.relay_unit.specs.Following.{Sends, HasSent, SendsMore}
 use Rattle.relay_unit.specs.Relayed.{relayed, relayed_datagrams}
-use Rattle.relay_unit.specs.RelayText.{IsVenue}
+use Rattle.client_core.specs.Venues.{IsVenue}
 use Rattle.relay_unit.specs.Stands.{Stands, relay_unit_of}
 use Rattle.relay_unit.specs.declared.relay.Relay.{Relay}
 

@@ -3,7 +3,6 @@ use Rattle.pitch_messages.specs.Room.{Roomy}
 use Rattle.client_core.specs.Client.{current_book}
 use Rattle.client_core.specs.Weight.{weight, told_by}
 use Rattle.pitch_model.specs.Image.{image}
-use Rattle.pitch_model.proofs.Images.{image_book}
 use Rattle.heard_items.specs.Heard.{heard}
 use Rattle.heard_items.specs.declared.change.Change.{Change}
 use Rattle.heard_items.specs.declared.change.ImageEnd.TheVariants as end
@@ -13,14 +12,14 @@ use Rattle.relay_unit.proofs.Weighed.{taken_weighs}
 use Rattle.relay_unit.proofs.hearing.hear_item.Goals as goal
 
 pub returns-in_ok-image_of-clause-keeps : goal.returns-in_ok-image_of-clause-keeps
-returns-in_ok-image_of-clause-keeps c = λ V H E T venue K. c.in_ok-change.ensures.keeps image V (λ s. image_book V s venue.bytes) H E T venue.honest K
+returns-in_ok-image_of-clause-keeps c = λ V H E T venue K. c.in_ok-change.ensures.keeps venue.Image V venue.are_images H E T venue.honest K
 
 pub returns-else-taken-clause-keeps : goal.returns-else-taken-clause-keeps
-returns-else-taken-clause-keeps c = λ V H E T venue K. c.in_ok-change.ensures.keeps image V (λ s. image_book V s venue.bytes) H E T venue.honest K
+returns-else-taken-clause-keeps c = λ V H E T venue K. c.in_ok-change.ensures.keeps venue.Image V venue.are_images H E T venue.honest K
 
 pub returns-in_ok-image_of-clause-sends : goal.returns-in_ok-image_of-clause-sends
 returns-in_ok-image_of-clause-sends c = λ V H E T venue K before e.
-    let K' = c.in_ok-change.ensures.keeps image V (λ s. image_book V s venue.bytes) H E T venue.honest K in
+    let K' = c.in_ok-change.ensures.keeps venue.Image V venue.are_images H E T venue.honest K in
     let T' = c.in_ok-change.ensures.tracks H E T in
     let is : c.in_ok-change.change.image ≡ end.Taken = c.is_taken-taken.ensures.taken c.if-taken.true in
     sends_taken H V E c.args.item.now c.book.result.now.book c.write.result c.args.sent.now.items c.hear_into.new.applied.items c.push.new.self.items c.image_of.new.out.items
@@ -32,7 +31,7 @@ returns-else-taken-clause-sends c = λ V H E T venue K before e.
     let not : c.in_ok-change.change.image ≡ end.Taken → ⊥ = c.is_taken-taken.ensures.other c.if-taken.false in
     sends_untaken H V E c.args.item.now c.args.sent.now.items c.hear_into.new.applied.items
     (λ is. not (ap (λ (x : Change). x.image) (c.in_ok-change.ensures.change H E T) ∙ is))
-    (c.in_ok-change.ensures.venues not image V H E T venue.honest K) before e
+    (c.in_ok-change.ensures.venues not venue.Image V H E T venue.honest K) before e
 
 pub returns-in_ok-image_of-clause-weighs : goal.returns-in_ok-image_of-clause-weighs
 returns-in_ok-image_of-clause-weighs c =

@@ -3,7 +3,6 @@ use Rattle.std.proofs.lemmas.Bool.{ne_eqb}
 use Rattle.unit_packets.specs.Blocks.{Block}
 use Rattle.unit_packets.specs.declared.header.Header.{Header}
 use Rattle.pitch_model.specs.Honest.{Honest}
-use Rattle.pitch_model.specs.Image.{image}
 use Rattle.client_core.specs.layers.Blocks.{Carries}
 use Rattle.client_core.specs.Tracks.{Tracks}
 use Rattle.client_core.specs.Client.{current_book}
@@ -31,7 +30,7 @@ returns-clause-keeps c =
     let named : c.header-sequence.result.sequence ≡ block.sequence = ap (λ (h : Header). h.sequence) c.header-sequence.ensures in
     let some : (block.sequence == 0) ≡ false = ne_eqb block.sequence 0 (λ e. c.if-sequence-eq0.false (named ∙ e)) in
     on_ok c.hear_block.result (λ keeps V H E T venue K.
-    keeps block (carries block c.header-sequence.result c.raws-2.result named c.raws-2.ensures.raws) image V E (subst (Honest image V) (sym (merged_block block E some)) venue.honest) K) c.hear_block.ensures.keeps
+    keeps block (carries block c.header-sequence.result c.raws-2.result named c.raws-2.ensures.raws) venue.Image V E (subst (Honest venue.Image V) (sym (merged_block block E some)) venue.honest) K) c.hear_block.ensures.keeps
 
 pub returns-clause-sends : goal.returns-clause-sends
 returns-clause-sends c =
@@ -42,7 +41,7 @@ returns-clause-sends c =
     let same = merged_block block E some in
     subst (λ F. SendsOn H V E F c.args.sent.now.items c.hear_block.new.notes.items) same
     (sends_block H V E block c.args.sent.now.items c.hear_block.new.notes.items
-    (venues block (carries block c.header-sequence.result c.raws-2.result named c.raws-2.ensures.raws) image V H E T (subst (Honest image V) (sym same) venue.honest) K))) c.hear_block.ensures.venues
+    (venues block (carries block c.header-sequence.result c.raws-2.result named c.raws-2.ensures.raws) venue.Image V H E T (subst (Honest venue.Image V) (sym same) venue.honest) K))) c.hear_block.ensures.venues
 
 pub returns-clause-change : goal.returns-clause-change
 returns-clause-change c =

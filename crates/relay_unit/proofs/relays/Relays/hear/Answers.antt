@@ -2,7 +2,7 @@ use Rattle.std.proofs.Common.{ℕ, List, ◌∷◌, subst}
 use Rattle.unit_packets.specs.Blocks.{Block}
 use Rattle.relay_unit.specs.layers.Calls.{AppendVenues}
 use Rattle.relay_unit.specs.layers.Places.{AppendsThere}
-use Rattle.relay_unit.specs.RelayText.{IsVenue}
+use Rattle.client_core.specs.Venues.{IsVenue}
 use Rattle.relay_unit.specs.Relays.{Relays, HaveRelayed, IsRelay}
 use Rattle.relay_unit.specs.Sparing.{IsSpentBy, messages_heard}
 use Rattle.relay_unit.specs.declared.relay.RelayError.{RelayError}

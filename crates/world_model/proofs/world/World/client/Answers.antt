@@ -1,5 +1,6 @@
 use Rattle.std.proofs.Common.{◌<◌, subst, arith}
 use Rattle.client_core.specs.Tracks.{Tracks}
+use Rattle.client_core.proofs.Venues.{own_venue}
 use Rattle.client_end.specs.Parts.{ClientHeard}
 use Rattle.world_model.specs.State.{State}
 use Rattle.world_model.specs.Verbs.{state_of}
@@ -18,7 +19,8 @@ returns-clause-keeps c = λ unit limits before stands.
     let w = c.args.self.now in
     let s : State = state_of unit limits before in
     let small : w.unit < 256 = omega arith in
-    (seen_client w s (has_all w unit limits before stands) (λ setup now. ClientHeard setup.hold c.client.result.now now.heard) c.client.ensures).keeps s.venue.messages stands.is.venue.market.venue.bytes (whole w s (has_all w unit limits before stands) small).honest
+    (seen_client w s (has_all w unit limits before stands) (λ setup now. ClientHeard setup.hold c.client.result.now now.heard) c.client.ensures).keeps s.venue.messages
+    (own_venue s.venue.messages s.client.heard stands.is.venue.market.venue.bytes (whole w s (has_all w unit limits before stands) small).honest)
 
 pub returns-clause-whole : goal.returns-clause-whole
 returns-clause-whole c = λ unit limits before stands.
