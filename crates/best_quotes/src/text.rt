@@ -1,13 +1,11 @@
 //! The line that the command `quotes` prints of each quote.
 
-ghost use Rattle.std.specs.Prelude.{◌≡◌, ◌≤◌, ◌+◌, ◌++◌, take, length, OnOk};
-ghost use Rattle.std.specs.List.{flat_map};
+ghost use Rattle.std.specs.Prelude.{◌≡◌, ◌≤◌, ◌+◌, ◌++◌, take, length};
 ghost use Rattle.feed_lines.specs.LineSize.{line_size};
 ghost use Rattle.best_quotes.specs.QuotesText.{best_text, quote_head, quote_tail, quote_line};
 
 use crate::quote::{Quote, QuoteLine};
-use feed_lines::LINE;
-use pitch_fields::{OutOfMemory, Price, put_byte, put_name, put_number, put_price, put_text};
+use pitch_fields::{Price, put_byte, put_name, put_number, put_price, put_text};
 
 // Writes a price and its shares, or a dash for each.
 fn put_best(out: &mut [u8], at: usize, best: Option<(Price, u64)>) -> usize
@@ -66,25 +64,4 @@ pub fn put_quote_line(out: &mut [u8], at: usize, unit: u8, line: &QuoteLine) -> 
 {
     let head = put_quote_head(out, at, unit, line.sequence);
     put_quote_tail(out, head, &line.quote)
-}
-
-// Appends the line of a quote of a unit.
-fn append_quote(unit: u8, quote: &QuoteLine, text: &mut Vec<u8>) -> Result<(), OutOfMemory>
-    ensures { OnOk result (text.new.items ≡ text.old.items ++ quote_line unit quote.now) }
-{
-    let mut line = [0; LINE];
-    let end = put_quote_line(&mut line, 0, unit, quote);
-    text.extend_from_slice(&line[..end])?;
-    Ok(())
-}
-
-/// Appends the lines of quotes of a unit.
-pub fn append_quotes(unit: u8, quotes: &[QuoteLine], text: &mut Vec<u8>) -> Result<(), OutOfMemory>
-    ensures { OnOk result
-        (text.new.items ≡ text.old.items ++ flat_map (quote_line unit) quotes.now) }
-{
-    'lines: for quote in quotes {
-        append_quote(unit, quote, text)?;
-    }
-    Ok(())
 }

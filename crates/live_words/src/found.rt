@@ -14,11 +14,11 @@ ghost use Rattle.live_words.specs.declared.listen_words.ListenWords.{ListenWords
 
 use crate::listen_words::{LineWords, ListenWords, ServerWords};
 use crate::named::Named;
-use crate::number::number;
 use crate::servers::{account_of, can_ask};
 use clap::ArgMatches;
 use pitch_fields::OutOfMemory;
 use pitch_text::DEFAULT_HOLD;
+use pitch_words::number;
 use session_ends::Account;
 use std::alloc::Global;
 

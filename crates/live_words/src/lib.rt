@@ -43,7 +43,6 @@ mod app;
 mod found;
 mod listen_words;
 mod named;
-mod number;
 mod parse;
 mod reading;
 mod serve_words;

@@ -8,10 +8,10 @@ ghost use Rattle.live_words.specs.Trials.{IsShareText};
 ghost use Rattle.live_words.specs.Asked.{IsPortText};
 
 use crate::listen_words::Server;
-use crate::number::number;
 use crate::shares::line_named;
 use crate::trial_words::LineShare;
 use line_sockets::Port;
+use pitch_words::number;
 use std::net::{IpAddr, SocketAddr};
 
 /// What a word may name.

@@ -14,11 +14,11 @@ ghost use Rattle.live_words.specs.declared.trial_words.HarmWords.{HarmWords as H
 ghost use Rattle.live_words.specs.declared.trial_words.TrialWords.{TrialWords as TrialFor};
 
 use crate::found::{long_or, named_in, seconds_in, text_of};
-use crate::number::number;
 use crate::shares::shares_of;
 use crate::trial_words::{HarmWords, LineShare, PlanWords, ShareWords, TrialWords};
 use clap::ArgMatches;
 use pitch_fields::OutOfMemory;
+use pitch_words::number;
 use std::alloc::Global;
 
 // The most commands that a unit makes, and the most of them in a second; and how many there are

@@ -8,32 +8,18 @@ ghost use Rattle.long_options.specs.layers.Finding.{is_set};
 ghost use Rattle.pitch_fields.specs.Limits.{most_held};
 ghost use Rattle.pitch_text.specs.Defaults.{default_hold};
 ghost use Rattle.pitch_words.specs.Forms.{IsCarried};
-ghost use Rattle.pitch_words.specs.Numbers.{IsGivenNumber, IsGivenOr, IsGivenMaybe, IsNumber};
+ghost use Rattle.pitch_words.specs.Numbers.{IsGivenNumber, IsGivenOr, IsGivenMaybe};
 ghost use Rattle.pitch_words.specs.layers.Commands.{HasForm, carried_by};
 ghost use Rattle.pitch_words.specs.declared.form.Carried.{Carried};
 ghost use Rattle.pitch_words.specs.declared.form.Carried.TheVariants.{Bare};
 ghost use Rattle.pitch_words.specs.declared.form.Form.{Form};
 ghost use Rattle.pitch_words.specs.declared.form.Form.TheVariants.{Stream};
 
+use crate::digits::number;
 use crate::form::{Carried, Form, StreamWords, TextWords};
 use clap::ArgMatches;
 use pitch_fields::MOST_HELD;
 use pitch_text::DEFAULT_HOLD;
-
-// The number that the text writes by 1 to 20 digits, where it lies within the range.
-fn number(text: &str, least: u64, most: u64) -> Option<u64>
-    ensures some { IfSome result (λ n. IsNumber least most text.now n) }
-    ensures none { IfNone result ((n : ℕ) → ¬ IsNumber least most text.now n) }
-{
-    let bytes = text.as_bytes();
-    if bytes.len() > 20 || bytes.first() == Some(&b'+') {
-        return None;
-    }
-    match text.parse::<u64>() {
-        Ok(n) if least <= n && n <= most => Some(n),
-        _ => None,
-    }
-}
 
 // The text of an option's value.
 #[tactic(auto, using(crate::proofs::Rows::first_is))]

@@ -30,10 +30,12 @@
 #![tactic(auto)]
 
 mod app;
+mod digits;
 mod form;
 mod found;
 mod parse;
 mod reading;
 
+pub use crate::digits::number;
 pub use crate::form::{Carried, Form, StreamWords, TextWords};
 pub use crate::reading::{one_form, read};
