@@ -30,8 +30,11 @@ def main(places, address, *command):
             one = joined(place, address)
         except (OSError, ValueError) as error:
             sys.exit(f"join.py: {place} can't be joined at {address}: {error}")
-        os.dup2(one.fileno(), number)
-        one.close()
+        at = one.detach()
+        os.dup2(at, number)
+        os.set_inheritable(number, True)
+        if at != number:
+            os.close(at)
     os.execvp(command[0], command)
 
 

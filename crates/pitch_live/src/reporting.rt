@@ -62,9 +62,10 @@ pub fn report_to<'a, I: Read + AsRawFd + Drop>(
     say_unsent(rt, sockets.send_errors(), sockets.send_trouble());
     let trouble = sockets.trouble();
     match ended {
-        Ok(()) => say_watched(rt, asked_path.as_str(), net.trouble()),
+        Ok(()) => {}
         Err(ReportError::Serve(error)) => say_early(rt, asked, error, trouble),
         Err(ReportError::Write(fault)) => say_unwritten(rt, path, fault),
     }
+    say_watched(rt, asked_path.as_str(), net.trouble());
     Ok(report_status(&ended, trouble, net.trouble()))
 }
