@@ -51,9 +51,9 @@ if command -v rustc > "$made/said" && rustc --version > "$made/said" 2>&1; then
     said="$said, Rust ran"
 fi
 "$cc" -O2 -fPIC -shared heap.c -Wl,--whole-archive "$library" -Wl,--no-whole-archive \
-    -Wl,--version-script=libpitch.map -Wl,-soname,libpitch.so.3 -o "$made/libpitch.so" ||
+    -Wl,--version-script=libpitch.map -Wl,-soname,libpitch.so.4 -o "$made/libpitch.so" ||
     fail "no shared object"
-others=$(nm -D --defined-only "$made/libpitch.so" | awk '$3 !~ /^(pitch_c_|PITCH_3)/')
+others=$(nm -D --defined-only "$made/libpitch.so" | awk '$3 !~ /^(pitch_c_|PITCH_4)/')
 [ -z "$others" ] || fail "the shared object exports $others"
 same python3 pitch_client.py "$made/libpitch.so"
 python3 recover.py "$made/libpitch.so" | cmp -s - recover.wanted ||

@@ -25,7 +25,10 @@ int main(int argc, char **argv) {
     pitch_sent_out t;
     pitch_status_out s;
     pitch_best_out b;
-    pitch_order_out o;
+    pitch_order_out o, os[4];
+    pitch_state_out x, xs[4];
+    pitch_level_out l, ls[4];
+    uint64_t n, of_book;
     uint32_t stands;
     uint8_t bytes[96];
     const uint8_t *sub = (const uint8_t *)"0001", *user = (const uint8_t *)"FEED";
@@ -33,13 +36,16 @@ int main(int argc, char **argv) {
     if (argc > 1) state ^= strtoull(argv[1], NULL, 10) * 0x9e3779b97f4a7c15ull;
     memset(&d, 0x5a, sizeof d), memset(&t, 0x5a, sizeof t), memset(&s, 0x5a, sizeof s);
     memset(&b, 0x5a, sizeof b), memset(&o, 0x5a, sizeof o), memset(&stands, 0x5a, sizeof stands);
-    memset(bytes, 0x5a, sizeof bytes);
+    memset(bytes, 0x5a, sizeof bytes), memset(&x, 0x5a, sizeof x), memset(&l, 0x5a, sizeof l);
+    memset(&n, 0x5a, sizeof n);
     /* closed, which it stays */
     if (pitch_end_hear(&e, bytes, 0, &d) != PITCH_CLOSED || pitch_end_second(&e) != PITCH_CLOSED) return 1;
     if (pitch_end_connected(&e, 1) != PITCH_CLOSED || pitch_end_cut(&e, 9) != PITCH_CLOSED) return 2;
     if (pitch_end_took(&e, 1, bytes, 0) != PITCH_CLOSED || pitch_end_send(&e, 1, NULL, 0, &t) != PITCH_CLOSED) return 3;
     if (pitch_end_connection(&e, 1, &stands) != PITCH_CLOSED || pitch_end_status(&e, &s) != PITCH_CLOSED) return 4;
     if (pitch_end_best(&e, word, 'B', &b) != PITCH_CLOSED || pitch_end_order(&e, 1, &o) != PITCH_CLOSED) return 5;
+    if (pitch_end_orders(&e, &o, 1, &n) != PITCH_CLOSED || pitch_end_states(&e, &x, 1, &n) != PITCH_CLOSED) return 37;
+    if (pitch_end_levels(&e, word, 'x', &l, 1, &n) != PITCH_CLOSED || pitch_end_level(&e, word, 'x', 1, &l) != PITCH_CLOSED) return 38;
     /* the unit, and the hold */
     if (pitch_end_open(&e, 0, sub, user, word, 8) != PITCH_BAD_UNIT) return 6;
     if (pitch_end_open(&e, 256, sub, user, word, 0) != PITCH_BAD_UNIT) return 7;
@@ -56,11 +62,20 @@ int main(int argc, char **argv) {
         if (pitch_end_connection(&e, session, &stands) != PITCH_NO_SESSION) return 15;
     }
     if (pitch_end_best(&e, word, 'x', &b) != PITCH_NO_SIDE) return 16;
+    if (pitch_end_levels(&e, word, 'x', &l, 1, &n) != PITCH_NO_SIDE || pitch_end_level(&e, word, 'x', 1, &l) != PITCH_NO_SIDE) return 39;
+    if (pitch_end_orders(&e, NULL, 1, &n) != PITCH_NULL || pitch_end_states(&e, &x, 1, NULL) != PITCH_NULL) return 40;
+    if (pitch_end_levels(&e, NULL, 'B', &l, 1, &n) != PITCH_NULL || pitch_end_level(&e, word, 'B', 1, NULL) != PITCH_NULL) return 41;
     if (pitch_end_hear(&e, NULL, 1, &d) != PITCH_NULL || pitch_end_second(NULL) != PITCH_NULL) return 17;
     if (pitch_end_send(&e, 1, NULL, 1, &t) != PITCH_NULL || pitch_end_status(&e, NULL) != PITCH_NULL) return 18;
     if (!is_kept(&d, sizeof d) || !is_kept(&t, sizeof t) || !is_kept(&s, sizeof s)) return 34;
     if (!is_kept(&b, sizeof b) || !is_kept(&o, sizeof o)) return 35;
     if (!is_kept(&stands, sizeof stands) || !is_kept(bytes, sizeof bytes)) return 36;
+    if (!is_kept(&x, sizeof x) || !is_kept(&l, sizeof l) || !is_kept(&n, sizeof n)) return 42;
+    /* of an empty book there is nothing, and nothing is written but that */
+    if (pitch_end_orders(&e, &o, 1, &n) != PITCH_OK || n || !is_kept(&o, sizeof o)) return 43;
+    if (pitch_end_states(&e, &x, 1, &n) != PITCH_OK || n || !is_kept(&x, sizeof x)) return 44;
+    if (pitch_end_levels(&e, word, 'B', &l, 1, &n) != PITCH_OK || n || !is_kept(&l, sizeof l)) return 45;
+    if (pitch_end_level(&e, word, 'B', 7, &l) != PITCH_OK || l.price != 7 || l.shares) return 46;
     /* without a connection nothing waits, and bytes are of none */
     if (pitch_end_took(&e, 2, bytes, sizeof bytes) != PITCH_OK || pitch_end_cut(&e, 1) != PITCH_OK) return 19;
     if (pitch_end_send(&e, 1, NULL, 0, &t) != PITCH_OK || t.count || t.left) return 20;
@@ -84,6 +99,15 @@ int main(int argc, char **argv) {
         if (pitch_end_send(&e, session, bytes, (size_t)(next() % 64), &t) != PITCH_OK) return 30;
         if (!stands && (t.count || t.left)) return 31;
         if (pitch_end_status(&e, &s) != PITCH_OK || pitch_end_order(&e, next() % 64, &o) != PITCH_OK) return 32;
+        /* as many as fit, and how many there are whatever fits */
+        if (pitch_end_orders(&e, os, 4, &n) != PITCH_OK || pitch_end_orders(&e, NULL, 0, &of_book) != PITCH_OK || n != of_book) return 47;
+        for (uint64_t k = 0; k < n && k < 4; k++) {
+            if (os[k].there != 1 || os[k].display > 1 || os[k].spare[0] || os[k].spare[1]) return 48;
+            if (pitch_end_order(&e, os[k].id, &o) != PITCH_OK || memcmp(&o, &os[k], sizeof o)) return 49;
+            if (pitch_end_levels(&e, o.symbol, (uint8_t)o.side, ls, 4, &of_book) != PITCH_OK || !of_book) return 50;
+            if (pitch_end_level(&e, o.symbol, (uint8_t)o.side, ls[0].price, &l) != PITCH_OK || l.shares != ls[0].shares) return 51;
+        }
+        if (pitch_end_states(&e, xs, 4, &n) != PITCH_OK) return 52;
     }
     pitch_end_close(&e);
     pitch_end_close(&e);

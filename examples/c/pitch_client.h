@@ -28,7 +28,7 @@ extern "C" {
 #endif
 
 /* What pitch_c_abi answers where the library has the structs and functions of this header. */
-#define PITCH_ABI 3
+#define PITCH_ABI 4
 
 /* What the functions answer. Where it is neither PITCH_OK nor PITCH_UNTOLD, a client stands for
  * what it stood for, and nothing was written. Of an end pitch_end.h tells. */
@@ -80,7 +80,9 @@ typedef struct pitch_order_out {
     uint32_t quantity; /* in shares */
     uint32_t side;     /* 'B' or 'S' */
     uint8_t symbol[8]; /* with spaces at its end */
-    uint64_t spare[3];
+    uint32_t display;  /* 1 where it is displayed, else 0 */
+    uint8_t participant[4]; /* with spaces at its end; four spaces where none is named */
+    uint64_t spare[2];
 } pitch_order_out;
 
 typedef struct pitch_state_out {
@@ -201,11 +203,11 @@ static inline uint32_t pitch_hear_quoted(pitch_client *client, const uint8_t *by
 }
 
 /* Takes memory ahead for so many messages of a unit: pitch_hear then takes none for a block whose
- * messages, with those that are held, are no more. A unit that no block named gets its client by a
- * block without messages and without a sequence, which tells it of nothing. More than the orders
- * that a book can have is PITCH_NO_MEMORY. In a client that was opened with price levels, those
- * that went for want of memory are made anew from the open orders, which takes some microseconds for
- * each. */
+ * messages, with those that are held, are no more. What other units hear or reserve takes nothing of
+ * it, nor does a call that fails. A unit that no block named gets its client by a block without
+ * messages and without a sequence, which tells it of nothing. More than the orders that a book can
+ * have is PITCH_NO_MEMORY. In a client that was opened with price levels, those that went for want
+ * of memory are made anew from the open orders, which takes some microseconds for each. */
 static inline uint32_t pitch_reserve(pitch_client *client, uint32_t unit, uint32_t messages) {
     const uint8_t silent[8] = { 8, 0, 0, (uint8_t)unit, 0, 0, 0, 0 };
     pitch_heard_out told;

@@ -184,6 +184,29 @@ public:
         must(pitch_end_order(&raw_, id, &told));
         return told.there ? std::optional(told) : std::nullopt;
     }
+    std::vector<pitch_order_out> orders() {
+        return listed<pitch_order_out>([&](pitch_order_out *told, size_t len, uint64_t *number) {
+            return pitch_end_orders(&raw_, told, len, number);
+        });
+    }
+    std::vector<pitch_state_out> states() {
+        return listed<pitch_state_out>([&](pitch_state_out *told, size_t len, uint64_t *number) {
+            return pitch_end_states(&raw_, told, len, number);
+        });
+    }
+    // The best first.
+    std::vector<pitch_level_out> levels(const Symbol &symbol, char side) {
+        return listed<pitch_level_out>([&](pitch_level_out *told, size_t len, uint64_t *number) {
+            return pitch_end_levels(&raw_, symbol.bytes, static_cast<uint8_t>(side), told, len,
+                                    number);
+        });
+    }
+    // The shares at a price, in ten-thousandths of a dollar.
+    uint64_t level(const Symbol &symbol, char side, uint64_t price) {
+        pitch_level_out told;
+        must(pitch_end_level(&raw_, symbol.bytes, static_cast<uint8_t>(side), price, &told));
+        return told.shares;
+    }
 
 private:
     pitch_end raw_ = PITCH_END_INIT;

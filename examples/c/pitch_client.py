@@ -14,7 +14,7 @@ import weakref
 U8, U32, U64, SIZE = ctypes.c_uint8, ctypes.c_uint32, ctypes.c_uint64, ctypes.c_size_t
 # ctypes takes any int, and passes the low bits of one that does not fit.
 END_OF = {kind: 1 << 8 * ctypes.sizeof(kind) for kind in (U8, U32, U64, SIZE)}
-ABI = 3
+ABI = 4
 SILENT, CURRENT, BEHIND = 1, 2, 3
 PROXY, SPIN_SERVER = 1, 2
 
@@ -54,7 +54,7 @@ class Best(ctypes.Structure):
 
 class Order(ctypes.Structure):
     _fields_ = [("there", U64), ("id", U64), ("price", U64), ("quantity", U32), ("side", U32),
-                ("symbol", U8 * 8), ("spare", U64 * 3)]
+                ("symbol", U8 * 8), ("display", U32), ("participant", U8 * 4), ("spare", U64 * 2)]
 
 
 class State(ctypes.Structure):
@@ -120,6 +120,10 @@ END_CALLS = {
     "pitch_c_end_status": ([of(RawEnd), of(Status)], U32),
     "pitch_c_end_best": ([of(RawEnd), BYTES, U8, of(Best)], U32),
     "pitch_c_end_order": ([of(RawEnd), U64, of(Order)], U32),
+    "pitch_c_end_orders": ([of(RawEnd), of(Order), SIZE, of(U64)], U32),
+    "pitch_c_end_states": ([of(RawEnd), of(State), SIZE, of(U64)], U32),
+    "pitch_c_end_levels": ([of(RawEnd), BYTES, U8, of(Level), SIZE, of(U64)], U32),
+    "pitch_c_end_level": ([of(RawEnd), BYTES, U8, U64, of(Level)], U32),
 }
 
 
@@ -191,6 +195,15 @@ class Handle:
         if code:
             raise PitchError(code)
 
+    def _list(self, name, kind, *given, most=None):
+        """All items of a list, or so many at most: how many there are is asked first."""
+        number, items = U64(), (kind * (most or 0))()
+        self._ask(name, *given, items, len(items), number)
+        if most is None:
+            items = (kind * number.value)()
+            self._ask(name, *given, items, len(items), number)
+        return items[: number.value]
+
 
 class Client(Handle):
     """The clients of all units of a feed. A side is "B" or "S"."""
@@ -249,14 +262,6 @@ class Client(Handle):
         self._ask("order", unit, order_id, told)
         return told if told.there else None
 
-    def _list(self, name, kind, unit):
-        """All items of a list of a unit: how many there are is asked first."""
-        number, items = U64(), (kind * 0)()
-        self._ask(name, unit, items, 0, number)
-        items = (kind * number.value)()
-        self._ask(name, unit, items, len(items), number)
-        return list(items)
-
     def orders(self, unit):
         """The open orders of a unit by rising id."""
         return self._list("orders", Order, unit)
@@ -267,13 +272,8 @@ class Client(Handle):
 
     def levels(self, unit, symbol, side, most=None):
         """The prices with their shares, the best first: all, or so many at most."""
-        number, items = U64(), (Level * (most or 0))()
-        given = unit, padded(symbol, 8), ord(side)
-        self._ask("levels", *given, items, len(items), number)
-        if most is None:
-            items = (Level * number.value)()
-            self._ask("levels", *given, items, len(items), number)
-        return [(it.price, it.shares) for it in items[: number.value]]
+        items = self._list("levels", Level, unit, padded(symbol, 8), ord(side), most=most)
+        return [(it.price, it.shares) for it in items]
 
     def level(self, unit, symbol, side, price):
         """The shares at a price, in ten-thousandths of a dollar."""
@@ -344,6 +344,25 @@ class End(Handle):
         told = Order()
         self._ask("order", order_id, told)
         return told if told.there else None
+
+    def orders(self):
+        """The open orders by rising id."""
+        return self._list("orders", Order)
+
+    def states(self):
+        """The trading statuses by rising bytes of their symbols."""
+        return self._list("states", State)
+
+    def levels(self, symbol, side, most=None):
+        """The prices with their shares, the best first: all, or so many at most."""
+        items = self._list("levels", Level, padded(symbol, 8), ord(side), most=most)
+        return [(it.price, it.shares) for it in items]
+
+    def level(self, symbol, side, price):
+        """The shares at a price, in ten-thousandths of a dollar."""
+        told = Level()
+        self._ask("level", padded(symbol, 8), ord(side), price, told)
+        return told.shares
 
 
 def shown(best):

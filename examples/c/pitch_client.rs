@@ -29,7 +29,8 @@ struct BestOut {
     spare: [u64; 5],
 }
 
-/// An open order.
+/// An open order: its `display` is 1 where it is displayed, and its participant is four spaces where
+/// none is named.
 #[repr(C)]
 #[derive(Clone, Copy, Debug, Default, PartialEq, Eq)]
 pub struct Order {
@@ -39,7 +40,9 @@ pub struct Order {
     pub quantity: u32,
     pub side: u32,
     pub symbol: [u8; 8],
-    spare: [u64; 3],
+    pub display: u32,
+    pub participant: [u8; 4],
+    spare: [u64; 2],
 }
 
 /// The trading status of a symbol: the two bytes of its message.
@@ -202,9 +205,36 @@ unsafe extern "C" {
         told: *mut BestOut,
     ) -> u32;
     fn pitch_c_end_order(end: *mut RawEnd, id: u64, told: *mut Order) -> u32;
+    fn pitch_c_end_orders(
+        end: *mut RawEnd,
+        told: *mut Order,
+        len: usize,
+        number: *mut u64,
+    ) -> u32;
+    fn pitch_c_end_states(
+        end: *mut RawEnd,
+        told: *mut State,
+        len: usize,
+        number: *mut u64,
+    ) -> u32;
+    fn pitch_c_end_levels(
+        end: *mut RawEnd,
+        symbol: *const [u8; 8],
+        side: u8,
+        told: *mut Level,
+        len: usize,
+        number: *mut u64,
+    ) -> u32;
+    fn pitch_c_end_level(
+        end: *mut RawEnd,
+        symbol: *const [u8; 8],
+        side: u8,
+        price: u64,
+        told: *mut Level,
+    ) -> u32;
 }
 
-const ABI: u32 = 3;
+const ABI: u32 = 4;
 
 /// Why a call had no answer: a `pitch_code` of the header, never 0.
 #[derive(Clone, Copy, Debug, PartialEq, Eq)]
@@ -527,6 +557,48 @@ impl End {
         // SAFETY: as above.
         answered(unsafe { pitch_c_end_order(&mut self.raw, id, &mut told) })?;
         Ok((told.there != 0).then_some(told))
+    }
+
+    /// Writes the open orders by rising id, as many as fit, and tells how many there are.
+    pub fn orders(&mut self, told: &mut [Order]) -> Result<u64, Code> {
+        let mut number = 0;
+        let (at, len) = (told.as_mut_ptr(), told.len());
+        // SAFETY: as above; no more than the slice is written.
+        answered(unsafe { pitch_c_end_orders(&mut self.raw, at, len, &mut number) })?;
+        Ok(number)
+    }
+
+    /// Writes the trading statuses by rising bytes of their symbols, likewise.
+    pub fn states(&mut self, told: &mut [State]) -> Result<u64, Code> {
+        let mut number = 0;
+        let (at, len) = (told.as_mut_ptr(), told.len());
+        // SAFETY: as above.
+        answered(unsafe { pitch_c_end_states(&mut self.raw, at, len, &mut number) })?;
+        Ok(number)
+    }
+
+    /// Writes the levels of a symbol on a side, the best first, likewise.
+    pub fn levels(
+        &mut self,
+        symbol: &[u8; 8],
+        side: u8,
+        told: &mut [Level],
+    ) -> Result<u64, Code> {
+        let mut number = 0;
+        let (at, len) = (told.as_mut_ptr(), told.len());
+        // SAFETY: as above.
+        answered(unsafe {
+            pitch_c_end_levels(&mut self.raw, symbol, side, at, len, &mut number)
+        })?;
+        Ok(number)
+    }
+
+    /// The shares at a price.
+    pub fn level(&mut self, symbol: &[u8; 8], side: u8, price: u64) -> Result<u64, Code> {
+        let mut told = Level::default();
+        // SAFETY: as above.
+        answered(unsafe { pitch_c_end_level(&mut self.raw, symbol, side, price, &mut told) })?;
+        Ok(told.shares)
     }
 }
 

@@ -3,8 +3,8 @@
  *
  * An end is a struct of the caller's, as a client is: it begins as PITCH_END_INIT, pitch_end_open
  * makes it ready, and pitch_end_close frees what it has. What pitch_client.h says of a client's
- * fields, pointers, calls and threads holds of an end. A length above PTRDIFF_MAX is told as
- * PITCH_NULL.
+ * fields, pointers, calls and threads holds of an end. A length of bytes above PTRDIFF_MAX is told
+ * as PITCH_NULL.
  *
  * After any answer but PITCH_OK an end stands for what it stood for, and nothing was written, but
  * for three calls after PITCH_NO_MEMORY: pitch_end_hear may have heard some blocks, pitch_end_took
@@ -59,6 +59,12 @@ uint32_t pitch_c_end_status(pitch_end *end, pitch_status_out *told);
 uint32_t pitch_c_end_best(pitch_end *end, const uint8_t symbol[8], uint8_t side,
                           pitch_best_out *told);
 uint32_t pitch_c_end_order(pitch_end *end, uint64_t id, pitch_order_out *told);
+uint32_t pitch_c_end_orders(pitch_end *end, pitch_order_out *told, size_t len, uint64_t *number);
+uint32_t pitch_c_end_states(pitch_end *end, pitch_state_out *told, size_t len, uint64_t *number);
+uint32_t pitch_c_end_levels(pitch_end *end, const uint8_t symbol[8], uint8_t side,
+                            pitch_level_out *told, size_t len, uint64_t *number);
+uint32_t pitch_c_end_level(pitch_end *end, const uint8_t symbol[8], uint8_t side, uint64_t price,
+                           pitch_level_out *told);
 
 /* ---- The functions for C */
 
@@ -144,6 +150,42 @@ static inline uint32_t pitch_end_best(pitch_end *end, const uint8_t symbol[8], u
 static inline uint32_t pitch_end_order(pitch_end *end, uint64_t id, pitch_order_out *told) {
     if (!end || !told) return PITCH_NULL;
     return pitch_c_end_order(end, id, told);
+}
+
+/* The open orders by rising id: as many as fit in an array of `len`, and in `number` how many there
+ * are, as pitch_orders tells them. */
+static inline uint32_t pitch_end_orders(pitch_end *end, pitch_order_out *told, size_t len,
+                                        uint64_t *number) {
+    pitch_order_out none;
+    if (!end || !number || (!told && len)) return PITCH_NULL;
+    if (len > PTRDIFF_MAX / sizeof none) len = PTRDIFF_MAX / sizeof none;
+    return pitch_c_end_orders(end, told ? told : &none, len, number);
+}
+
+/* The trading statuses by rising bytes of their symbols, likewise. */
+static inline uint32_t pitch_end_states(pitch_end *end, pitch_state_out *told, size_t len,
+                                        uint64_t *number) {
+    pitch_state_out none;
+    if (!end || !number || (!told && len)) return PITCH_NULL;
+    if (len > PTRDIFF_MAX / sizeof none) len = PTRDIFF_MAX / sizeof none;
+    return pitch_c_end_states(end, told ? told : &none, len, number);
+}
+
+/* The levels of a symbol on a side, the best first, likewise. They are made anew from all open
+ * orders at each call. */
+static inline uint32_t pitch_end_levels(pitch_end *end, const uint8_t symbol[8], uint8_t side,
+                                        pitch_level_out *told, size_t len, uint64_t *number) {
+    pitch_level_out none;
+    if (!end || !symbol || !number || (!told && len)) return PITCH_NULL;
+    if (len > PTRDIFF_MAX / sizeof none) len = PTRDIFF_MAX / sizeof none;
+    return pitch_c_end_levels(end, symbol, side, told ? told : &none, len, number);
+}
+
+/* The shares at a price: 0 where no order is open there. It goes through all open orders. */
+static inline uint32_t pitch_end_level(pitch_end *end, const uint8_t symbol[8], uint8_t side,
+                                       uint64_t price, pitch_level_out *told) {
+    if (!end || !symbol || !told) return PITCH_NULL;
+    return pitch_c_end_level(end, symbol, side, price, told);
 }
 
 #ifdef __cplusplus

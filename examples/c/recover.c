@@ -1,5 +1,6 @@
 /* A lost packet, with both ends in memory: unit 7 sends three messages, of which the second is
- * lost. The end logs in to a Gap Request Proxy, asks, is cut off, asks again, and hears it. */
+ * lost. The end logs in to a Gap Request Proxy, asks, is cut off, asks again, and hears it. Then it
+ * tells its book. */
 #include "pitch_end.h"
 
 #include <inttypes.h>
@@ -64,6 +65,28 @@ static uint8_t asked(void) {
     return bytes[11];
 }
 
+/* A price in dollars. */
+static void print_at(uint64_t price) {
+    printf(" at %" PRIu64 ".%04" PRIu64 "\n", price / 10000, price % 10000);
+}
+
+/* The levels to buy, the best first, and the open orders by their ids. */
+static void print_book(void) {
+    pitch_level_out levels[8];
+    pitch_order_out orders[8];
+    uint64_t number;
+    ok("levels", pitch_end_levels(&end, (const uint8_t *)"ABC     ", 'B', levels, 8, &number));
+    for (uint64_t at = 0; at < number && at < 8; at++) {
+        printf("level %" PRIu64, levels[at].shares);
+        print_at(levels[at].price);
+    }
+    ok("orders", pitch_end_orders(&end, orders, 8, &number));
+    for (uint64_t at = 0; at < number && at < 8; at++) {
+        printf("order %" PRIu64 ": %" PRIu32, orders[at].id, orders[at].quantity);
+        print_at(orders[at].price);
+    }
+}
+
 int main(void) {
     uint32_t stands;
     uint8_t first;
@@ -84,8 +107,9 @@ int main(void) {
     hear(first);
     print_status("it came on the gap line");
     ok("best", pitch_end_best(&end, (const uint8_t *)"ABC     ", 'B', &best));
-    printf("bid %" PRIu64 " at %" PRIu64 ".%04" PRIu64 "\n", best.shares, best.price / 10000,
-           best.price % 10000);
+    printf("bid %" PRIu64, best.shares);
+    print_at(best.price);
+    print_book();
     pitch_end_close(&end);
     return pitch_end_status(&end, &(pitch_status_out){ 0 }) == PITCH_CLOSED ? 0 : 6;
 }

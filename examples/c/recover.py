@@ -17,6 +17,10 @@ def message(n):
     return struct.pack("<HBBI", 8 + len(add), 1, 7, n) + add
 
 
+def dollars(price):
+    return f"{price // 10000}.{price % 10000:04}"
+
+
 def print_status(end, when):
     status = end.status()
     print(f"{when}: {status.word} at {status.reach} of {status.top}")
@@ -56,7 +60,11 @@ def main(library):
     end.hear(message(first))
     print_status(end, "it came on the gap line")
     price, shares = end.best("ABC", "B")
-    print(f"bid {shares} at {price // 10000}.{price % 10000:04}")
+    print(f"bid {shares} at {dollars(price)}")
+    for price, shares in end.levels("ABC", "B"):
+        print(f"level {shares} at {dollars(price)}")
+    for order in end.orders():
+        print(f"order {order.id}: {order.quantity} at {dollars(order.price)}")
     end.close()
 
 

@@ -1,4 +1,4 @@
--- What hearing a block does to a leveled unit, and to the lines.
+-- What hearing a block does to a leveled unit, to the other units, and to the lines.
 use Rattle.std.specs.Prelude.{◌≡◌, ◌<◌, ◌⊎◌, ℕ, List, [], ◌∷◌}
 use Rattle.unit_packets.specs.Blocks.{Block}
 use Rattle.pitch_model.specs.History.{Entry, Raw}
@@ -6,7 +6,8 @@ use Rattle.pitch_model.specs.Honest.{Honest}
 use Rattle.pitch_model.specs.Reach.{reach}
 use Rattle.heard_items.specs.HeardBlocks.{heard_block}
 use Rattle.heard_items.specs.Units.{unit_history}
-use Rattle.unit_clients.specs.Clients.{Units, HaveHeard}
+use Rattle.unit_clients.specs.Clients.{Units, HaveHeard, client_of}
+use Rattle.unit_clients.specs.Room.{HaveSpare}
 use Rattle.client_core.specs.Tracks.{Tracks, Keeps}
 use Rattle.order_book.specs.Turns.{turns_of}
 use Rattle.order_book.specs.declared.turn.Turn.{Turn}
@@ -26,6 +27,16 @@ TellsAnew client lines block =
     (Image : List Raw → ℕ → List Raw) (V : List Raw) (H : ℕ) (E : List Entry)
     → Tracks client H E → Honest Image V (heard_block block E) → Keeps client V
     → lines ≡ quotes_of_block H V E block
+
+-- the clients of the other units stay, with what they have to spare
+abbrev pub OthersStay : Units → Units → ℕ → Type 0
+OthersStay old new unit =
+    (other : ℕ) → (other ≡ unit → ⊥) → client_of new other ≡ client_of old other
+
+-- each unit can apply as many messages without memory as before
+abbrev pub KeepSpare : Units → Units → Type 0
+KeepSpare old new =
+    (unit messages : ℕ) → HaveSpare old unit messages → HaveSpare new unit messages
 
 -- a block has no messages that a client could apply
 abbrev pub IsIdle : Block → Type 0

@@ -13,5 +13,6 @@ mod unit;
 mod units;
 
 pub use crate::best_first::LevelList;
+pub use crate::laying::lay_best_first;
 pub use crate::unit::{Heard, LeveledUnit};
 pub use crate::units::LeveledUnits;

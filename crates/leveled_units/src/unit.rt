@@ -20,7 +20,7 @@ ghost use Rattle.best_quotes.specs.LastBest.{quoted};
 ghost use Rattle.leveled_units.specs.Hearing.{TurnsBook, TellsAnew, Advances, IsIdle};
 
 use crate::best_first::{LevelList, append_levels};
-use crate::laying::lay_book;
+use crate::laying::{lay_best_first, lay_book};
 use best_quotes::{Levels, QuoteLines, best_level, level_at, turn_each};
 use client_core::{Change, UnitClient};
 use indexmap::IndexMap;
@@ -376,16 +376,14 @@ impl LeveledUnit {
             out.old.items out.new.items) }
         ensures memory { IsErr result → IsSome (best (current_book self.now) symbol side) }
     {
+        let Some(levels) = &self.levels else {
+            return lay_best_first(self.alloc, self.client.book(), symbol, side, most, out);
+        };
         let _orders = self.client.book().len();
         if self.best(symbol, side).is_none() {
             return Ok(0);
         }
-        if let Some(levels) = &self.levels {
-            let count = append_levels(levels, symbol, side, most, out)?;
-            return Ok(count);
-        }
-        let levels = lay_book(self.alloc, self.client.book())?;
-        let count = append_levels(&levels, symbol, side, most, out)?;
+        let count = append_levels(levels, symbol, side, most, out)?;
         Ok(count)
     }
 }

@@ -15,6 +15,7 @@ ghost use Rattle.unit_clients.specs.Clients.{HaveHeard, client_of};
 ghost use Rattle.unit_clients.specs.Room.{HearsFreely, HearFreely, HaveSpare, KeepRoom};
 ghost use Rattle.best_quotes.specs.Quoting.{quotes_of_block};
 ghost use Rattle.leveled_units.specs.Hearing.{TellBlock, Advances, IsIdle};
+ghost use Rattle.leveled_units.specs.Hearing.{KeepSpare, OthersStay};
 
 use crate::unit::{Heard, LeveledUnit};
 use best_quotes::QuoteLines;
@@ -181,8 +182,11 @@ impl LeveledUnits {
             ((before : List Block) → HaveHeard self.old before → HaveHeard self.new before) }
         // No error comes where the unit has a client with memory enough for the block.
         ensures memory { HearFreely self.old block.now → IsOk result }
-        // Memory that was taken ahead for this block and for more messages still serves those.
+        // Memory that was taken ahead for this block and for more messages still serves those; so
+        // does all that was taken for other units, and after an error for any.
         ensures room { OnOk result (KeepRoom self.old self.new block.now) }
+        ensures others { OthersStay self.old self.new block.now.unit }
+        ensures kept { OnErr result (KeepSpare self.old self.new) }
     {
         let limit = self.units.limit();
         let leveled = self.leveled;
@@ -214,8 +218,10 @@ impl LeveledUnits {
         // sequence.
         ensures memory { IsSome (client_of self.old block.now.unit) → IsIdle block.now
             → IsOk result }
-        // Memory that was taken ahead for this block and for more messages still serves those.
+        // Memory that was taken ahead still serves as after `hear_block`.
         ensures room { OnOk result (KeepRoom self.old self.new block.now) }
+        ensures others { OthersStay self.old self.new block.now.unit }
+        ensures kept { OnErr result (KeepSpare self.old self.new) }
         // They are told wherever the block applies no message.
         ensures untold { IfOk result (λ heard. heard.told ≡ false → (before : List Block)
             → HaveHeard self.old before
@@ -227,14 +233,15 @@ impl LeveledUnits {
     }
 
     /// Takes memory ahead for so many messages of a unit, where it has a client. The clients are as
-    /// before in either case. More than the orders that a book can have is answered as want of
-    /// memory.
+    /// before in either case, and what was taken before serves still. More than the orders that a
+    /// book can have is answered as want of memory.
     pub fn reserve(&mut self, unit: u8, messages: u32) -> Result<(), OutOfMemory>
         ensures limit { self.new.limit ≡ self.old.limit }
         ensures still { (before : List Block) → HaveHeard self.old before
             → HaveHeard self.new before }
         ensures room { OnOk result (IsSome (client_of self.old unit)
             → HaveSpare self.new unit messages) }
+        ensures kept { KeepSpare self.old self.new }
     {
         reserve_at(self.units.place_at(unit), messages)?;
         Ok(())

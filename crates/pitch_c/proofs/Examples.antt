@@ -1,5 +1,5 @@
 -- Worked examples of what C is told.
-use Rattle.std.proofs.Common.{◌≡◌, ℕ, true, List, [], ◌∷◌, Some, None, Ok, Err, refl}
+use Rattle.std.proofs.Common.{◌≡◌, ℕ, true, false, List, [], ◌∷◌, Some, None, Ok, Err, refl}
 use Rattle.pitch_fields.specs.declared.side.Side.TheVariants.{Buy, Sell}
 use Rattle.pitch_messages.specs.declared.order.Order.{Order}
 use Rattle.pitch_model.specs.declared.status.Status.TheVariants.{Current, Behind}
@@ -83,9 +83,33 @@ acme_told : order_shown (Some acme) ≡ record {
   quantity = 500;
   side = 66;
   symbol = 65 ∷ 67 ∷ 77 ∷ 69 ∷ 32 ∷ 32 ∷ 32 ∷ 32 ∷ [];
-  spare = 0 ∷ 0 ∷ 0 ∷ [];
+  display = 1;
+  participant = 32 ∷ 32 ∷ 32 ∷ 32 ∷ [];
+  spare = 0 ∷ 0 ∷ [];
 }
 acme_told = refl
+
+-- sell 1000 ZVZZT+P at 10.50, order 7 of ABCD, which is not displayed
+hidden_told : order_shown (Some (record {
+  id = 7;
+  side = Sell;
+  quantity = 1000;
+  symbol = 90 ∷ 86 ∷ 90 ∷ 90 ∷ 84 ∷ 43 ∷ 80 ∷ 32 ∷ [];
+  price = 105000;
+  display = false;
+  participant = 65 ∷ 66 ∷ 67 ∷ 68 ∷ [];
+})) ≡ record {
+  there = 1;
+  id = 7;
+  price = 105000;
+  quantity = 1000;
+  side = 83;
+  symbol = 90 ∷ 86 ∷ 90 ∷ 90 ∷ 84 ∷ 43 ∷ 80 ∷ 32 ∷ [];
+  display = 0;
+  participant = 65 ∷ 66 ∷ 67 ∷ 68 ∷ [];
+  spare = 0 ∷ 0 ∷ [];
+}
+hidden_told = refl
 
 -- ACME, T with 0
 halted : state_shown (record { symbol = 65 ∷ 67 ∷ 77 ∷ 69 ∷ 32 ∷ 32 ∷ 32 ∷ 32 ∷ []; halt = 84; sho = 48 })

@@ -1,15 +1,14 @@
 -- What a client that C holds stands for, and what C is told of it. Blocks stand newest first.
-use Rattle.std.specs.Prelude.{◌≡◌, ◌≤◌, ℕ, List, [], ◌∷◌, length, map as mapped, take, Some}
+use Rattle.std.specs.Prelude.{◌≡◌, ◌≤◌, ℕ, List, [], ◌∷◌, length, map as mapped, take}
 use Rattle.std.specs.Option.{IsSome, IsSomeAnd}
 use Rattle.std.specs.FinMap as map
 use Rattle.pitch_fields.specs.Side.{side_of}
 use Rattle.pitch_model.specs.History.{Raw}
 use Rattle.pitch_model.specs.Honest.{Honest}
 use Rattle.pitch_model.specs.Book.{Book, book_after}
-use Rattle.pitch_model.specs.Levels.{best, orders_of, with_level}
+use Rattle.pitch_model.specs.Levels.{best, with_level}
 use Rattle.pitch_model.specs.Reach.{reach}
 use Rattle.pitch_model.specs.Status.{status_of}
-use Rattle.pitch_model.specs.Statuses.{statuses_of}
 use Rattle.unit_packets.specs.Blocks.{Block}
 use Rattle.unit_packets.specs.Held.{StandsFirst}
 use Rattle.unit_packets.specs.Lending.{header_for}
@@ -17,12 +16,12 @@ use Rattle.heard_items.specs.Units.{unit_history}
 use Rattle.heard_items.specs.Changes.{block_change}
 use Rattle.unit_clients.specs.Clients.{Units, HaveHeard}
 use Rattle.unit_clients.specs.Room.{KeepRoom}
-use Rattle.leveled_units.specs.BestFirst.{levels_of}
-use Rattle.leveled_units.specs.Hearing.{Advances}
+use Rattle.leveled_units.specs.Hearing.{Advances, KeepSpare, OthersStay}
 use Rattle.best_quotes.specs.Quoting.{quotes_of_block}
 use Rattle.pitch_c.specs.Arrays.{Fills}
+use Rattle.pitch_c.specs.Lists.{ListsOrders, ListsStates, ListsLevels}
 use Rattle.pitch_c.specs.Reports.{status_shown, best_shown, heard_shown, order_shown}
-use Rattle.pitch_c.specs.Reports.{state_shown, level_shown, quote_shown}
+use Rattle.pitch_c.specs.Reports.{level_shown, quote_shown}
 use Rattle.pitch_c.specs.declared.reports.StatusOut.{StatusOut}
 use Rattle.pitch_c.specs.declared.reports.BestOut.{BestOut}
 use Rattle.pitch_c.specs.declared.reports.HeardOut.{HeardOut}
@@ -36,14 +35,17 @@ pub record AreOpened (hold : ℕ) (units : Units) : Type 0 where
   pub limit : units.limit ≡ hold
   pub heard : HaveHeard units []
 
--- they stand for whatever blocks they stood for, and hold as many messages as before
+-- they stand for whatever blocks they stood for, and hold as many messages as before; memory that
+-- was taken ahead serves as many messages as before
 pub record StillHave (old new : Units) : Type 0 where
   pub limit : new.limit ≡ old.limit
   pub heard : (before : List Block) → HaveHeard old before → HaveHeard new before
+  pub spare : KeepSpare old new
 
 -- a block was heard: whatever blocks came before, the clients then stand for these with it after
 -- them, and hold as many messages as before; memory that was taken ahead for it and for more
--- messages of its unit still serves those; and this is told of it
+-- messages of its unit still serves those; the clients of other units stay, with all memory that
+-- was taken for them; and this is told of it
 pub record Hears (old new : Units) (block : Block) (told : HeardOut) : Type 0 where
   pub limit : new.limit ≡ old.limit
   pub heard : (before : List Block) → HaveHeard old before → HaveHeard new (block ∷ before)
@@ -51,6 +53,7 @@ pub record Hears (old new : Units) (block : Block) (told : HeardOut) : Type 0 wh
       → told ≡ heard_shown (header_for block)
       (block_change old.limit (unit_history block.unit before) block)
   pub room : KeepRoom old new block
+  pub others : OthersStay old new block.unit
 
 -- so it was of the block that stands first in the bytes
 abbrev pub HearFirst : List ℕ → Units → Units → HeardOut → Type 0
@@ -139,18 +142,15 @@ HasSide units unit symbol side =
 -- all open orders, by rising id
 abbrev pub TellOrders : Units → ℕ → List OrderOut → List OrderOut → ℕ → Type 0
 TellOrders units unit old new number =
-    OfReachedBook units unit
-    (λ book. Fills (mapped (λ order. order_shown (Some order)) (orders_of book)) old new number)
+    OfReachedBook units unit (λ book. ListsOrders book old new number)
 
 -- all trading statuses, by rising bytes of their symbols
 abbrev pub TellStates : Units → ℕ → List StateOut → List StateOut → ℕ → Type 0
 TellStates units unit old new number =
-    OfReachedBook units unit
-    (λ book. Fills (mapped state_shown (statuses_of book)) old new number)
+    OfReachedBook units unit (λ book. ListsStates book old new number)
 
 -- all levels of a symbol on a side, the best first
 abbrev pub TellLevels : Units → ℕ → List ℕ → ℕ → List LevelOut → List LevelOut → ℕ → Type 0
 TellLevels units unit symbol side old new number =
     IsSomeAnd (side_of side)
-    (λ s. OfReachedBook units unit
-    (λ book. Fills (mapped level_shown (levels_of book symbol s)) old new number))
+    (λ s. OfReachedBook units unit (λ book. ListsLevels book symbol s old new number))

@@ -50,4 +50,4 @@ untold = 13
 
 -- what the struct and the functions are, as the header that C was compiled with has it
 abbrev pub abi : ℕ
-abi = 3
+abi = 4

@@ -2,12 +2,12 @@
 -- which answer. What came stands newest first.
 use Rattle.std.specs.Prelude.{◌≡◌, ◌≤◌, ◌==◌, ◌++◌, ◌+◌, nat_lt, ℕ, List, [], length, take, drop}
 use Rattle.std.specs.Prelude.{min, replicate, Option, None, Some, is_some, IfSome, if◌then◌else◌}
-use Rattle.std.specs.Option.{IsSomeAnd}
+use Rattle.std.specs.Option.{IsSome, IsSomeAnd}
 use Rattle.std.specs.FinMap as map
 use Rattle.pitch_fields.specs.Side.{side_of}
 use Rattle.pitch_model.specs.Book.{Book, book_after}
 use Rattle.pitch_model.specs.History.{Raw}
-use Rattle.pitch_model.specs.Levels.{best}
+use Rattle.pitch_model.specs.Levels.{best, with_level}
 use Rattle.pitch_model.specs.Reach.{reach}
 use Rattle.pitch_model.specs.Status.{status_of}
 use Rattle.unit_packets.specs.Cutting.{blocks_of, rest_of}
@@ -21,10 +21,13 @@ use Rattle.sending_end.specs.declared.session.Session.{Session}
 use Rattle.sending_end.specs.declared.session.Session.TheVariants.{Proxy, SpinServer}
 use Rattle.pitch_c.specs.Codes as code
 use Rattle.pitch_c.specs.Answers.{Answers, hold_code}
-use Rattle.pitch_c.specs.Reports.{status_shown, best_shown, order_shown}
+use Rattle.pitch_c.specs.Lists.{ListsOrders, ListsStates, ListsLevels}
+use Rattle.pitch_c.specs.Reports.{status_shown, best_shown, order_shown, level_shown}
 use Rattle.pitch_c.specs.declared.reports.StatusOut.{StatusOut}
 use Rattle.pitch_c.specs.declared.reports.BestOut.{BestOut}
 use Rattle.pitch_c.specs.declared.reports.OrderOut.{OrderOut}
+use Rattle.pitch_c.specs.declared.reports.StateOut.{StateOut}
+use Rattle.pitch_c.specs.declared.reports.LevelOut.{LevelOut}
 use Rattle.pitch_c.specs.declared.end_reports.DatagramOut.{DatagramOut}
 use Rattle.pitch_c.specs.declared.end_reports.SentOut.{SentOut}
 
@@ -140,3 +143,28 @@ TellEndBest e symbol side told = IsSomeAnd (side_of side)
 abbrev pub TellEndOrder : SendingEnd → ℕ → OrderOut → Type 0
 TellEndOrder e id told =
     OfEndBook e (λ book. told ≡ order_shown (map.get book.orders id))
+
+-- the shares at a price, with it
+abbrev pub TellEndLevel : SendingEnd → List ℕ → ℕ → ℕ → LevelOut → Type 0
+TellEndLevel e symbol side price told = IsSomeAnd (side_of side)
+    (λ sided. OfEndBook e (λ book. told ≡ level_shown (with_level book symbol sided price)))
+
+-- ---- Lists of its book
+abbrev pub TellEndOrders : SendingEnd → List OrderOut → List OrderOut → ℕ → Type 0
+TellEndOrders e old new number = OfEndBook e (λ book. ListsOrders book old new number)
+
+abbrev pub TellEndStates : SendingEnd → List StateOut → List StateOut → ℕ → Type 0
+TellEndStates e old new number = OfEndBook e (λ book. ListsStates book old new number)
+
+abbrev pub TellEndLevels : SendingEnd → List ℕ → ℕ → List LevelOut → List LevelOut → ℕ → Type 0
+TellEndLevels e symbol side old new number = IsSomeAnd (side_of side)
+    (λ sided. OfEndBook e (λ book. ListsLevels book symbol sided old new number))
+
+-- where a list may want memory: that book has an open order, and the array a place
+abbrev pub HasEndOrders : SendingEnd → List OrderOut → Type 0
+HasEndOrders e array = (1 ≤ length array) × OfEndBook e (λ book. 1 ≤ map.len book.orders)
+
+-- that book has an open order of a symbol on a side
+abbrev pub HasEndSide : SendingEnd → List ℕ → ℕ → Type 0
+HasEndSide e symbol side = IsSomeAnd (side_of side)
+    (λ sided. OfEndBook e (λ book. IsSome (best book symbol sided)))

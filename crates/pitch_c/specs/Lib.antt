@@ -4,4 +4,5 @@ pub mod Arrays
 pub mod Answers
 pub mod Clients
 pub mod Reports
+pub mod Lists
 pub mod Ends

@@ -1,5 +1,5 @@
 -- What the structs that C reads say. Each ends with room for fields to come, which is 0.
-use Rattle.std.specs.Prelude.{ℕ, replicate, Option, None, Some}
+use Rattle.std.specs.Prelude.{ℕ, replicate, Option, None, Some, if◌then◌else◌}
 use Rattle.pitch_fields.specs.Side.{byte_of}
 use Rattle.pitch_messages.specs.declared.order.Order.{Order}
 use Rattle.pitch_messages.specs.declared.trading_state.TradingState.{TradingState}
@@ -54,7 +54,9 @@ order_shown None = record {
   quantity = 0;
   side = 0;
   symbol = replicate 8 32;
-  spare = replicate 3 0;
+  display = 0;
+  participant = replicate 4 32;
+  spare = replicate 2 0;
 }
 order_shown (Some order) = record {
   there = 1;
@@ -63,7 +65,9 @@ order_shown (Some order) = record {
   quantity = order.quantity;
   side = byte_of order.side;
   symbol = order.symbol;
-  spare = replicate 3 0;
+  display = if order.display then 1 else 0;
+  participant = order.participant;
+  spare = replicate 2 0;
 }
 
 -- the trading status of a symbol

@@ -1,13 +1,8 @@
 //! Hearing a block, and asking, over the clients of all units.
 
-ghost use Rattle.std.specs.Prelude.{◌≡◌, ◌≤◌, ℕ, List, take};
-ghost use Rattle.std.specs.FinMap as map;
+ghost use Rattle.std.specs.Prelude.{◌≡◌, ◌≤◌, IfNone, IfSome};
 ghost use Rattle.pitch_fields.specs.Side.{side_of};
-ghost use Rattle.pitch_model.specs.History.{Entry, Raw};
-ghost use Rattle.pitch_model.specs.Book.{book_after};
-ghost use Rattle.pitch_model.specs.Levels.{best};
-ghost use Rattle.pitch_model.specs.Reach.{reach};
-ghost use Rattle.client_core.specs.Tracks.{Tracks, Keeps};
+ghost use Rattle.client_core.specs.Client.{current_book};
 ghost use Rattle.unit_packets.specs.Judging.{judge};
 ghost use Rattle.unit_clients.specs.Clients.{client_of};
 ghost use Rattle.unit_clients.specs.Room.{HaveSpare};
@@ -15,15 +10,14 @@ ghost use Rattle.pitch_c.specs.Codes as code;
 ghost use Rattle.pitch_c.specs.Answers.{Answers, judged_code, client_code, side_code};
 ghost use Rattle.pitch_c.specs.Answers.{MayTakeMemory};
 ghost use Rattle.pitch_c.specs.Clients.{StillHave, HearFirst};
-ghost use Rattle.pitch_c.specs.Clients.{TellStatus, TellBest, TellOrder};
+ghost use Rattle.pitch_c.specs.Clients.{TellStatus, TellBest, TellOrder, OfReachedBook};
 
 use crate::codes::{NO_CLIENT, NO_MEMORY, NO_SIDE, NOT_A_BLOCK, OK, TRUNCATED};
 use crate::reports::{
     BestOut, HeardOut, OrderOut, StatusOut, best_out, heard_out, order_out, status_out,
 };
 use leveled_units::{LeveledUnit, LeveledUnits};
-use pitch_fields::{Price, Side, Symbol};
-use pitch_messages::Order;
+use pitch_fields::{Side, Symbol};
 use std::alloc::Global;
 use unit_packets::view_block;
 
@@ -73,13 +67,20 @@ pub(crate) fn reserve_for(units: &mut LeveledUnits, unit: u32, messages: u32) ->
     }
 }
 
-// The best price of a symbol in a unit's book.
-fn best_price(client: &LeveledUnit, symbol: Symbol, side: Side) -> Option<(Price, u64)>
-    ensures { (H : ℕ) (E : List Entry) (V : List Raw) → Tracks client.now H E → Keeps client.now V
-        → result ≡ best (book_after (take (reach H E) V)) symbol side }
+// The client of a unit with its levels.
+pub(crate) fn find_client(units: &LeveledUnits, unit: u32) -> Option<&LeveledUnit>
+    ensures book { IfSome result (λ client. OfReachedBook units.now unit
+        (λ book. current_book client.now ≡ book)) }
+    ensures some { IfSome result (λ client. client_code (client_of units.now unit) ≡ code.ok) }
+    ensures none { IfNone result (client_code (client_of units.now unit) ≡ code.no_client) }
 {
-    let _book = client.client().book();
-    client.best(symbol, side)
+    match units.unit(unit) {
+        Some(client) => {
+            let _book = client.client().book();
+            Some(client)
+        }
+        None => None,
+    }
 }
 
 pub(crate) fn tell_status(units: &LeveledUnits, unit: u32, told: &mut StatusOut) -> u32
@@ -110,21 +111,13 @@ pub(crate) fn tell_best(
     let Some(side) = Side::from_byte(side) else {
         return NO_SIDE;
     };
-    match units.unit(unit) {
+    match find_client(units, unit) {
         Some(client) => {
-            *told = best_out(best_price(client, Symbol::from_eight(*symbol), side));
+            *told = best_out(client.best(Symbol::from_eight(*symbol), side));
             OK
         }
         None => NO_CLIENT,
     }
-}
-
-// The open order of an id in a unit's book.
-fn open_order(client: &LeveledUnit, id: u64) -> Option<Order>
-    ensures { (H : ℕ) (E : List Entry) (V : List Raw) → Tracks client.now H E → Keeps client.now V
-        → result ≡ map.get (book_after (take (reach H E) V)).orders id }
-{
-    client.client().book().order(id)
 }
 
 pub(crate) fn tell_order(units: &LeveledUnits, unit: u32, id: u64, told: &mut OrderOut) -> u32
@@ -132,9 +125,9 @@ pub(crate) fn tell_order(units: &LeveledUnits, unit: u32, id: u64, told: &mut Or
     ensures kept { 1 ≤ result → told.new ≡ told.old }
     ensures answer { result ≡ client_code (client_of units.now unit) }
 {
-    match units.unit(unit) {
+    match find_client(units, unit) {
         Some(client) => {
-            *told = order_out(open_order(client, id));
+            *told = order_out(client.client().book().order(id));
             OK
         }
         None => NO_CLIENT,

@@ -18,7 +18,7 @@ pub const NO_CLIENT: u32 = 7;
 
 pub const NO_SIDE: u32 = 8;
 
-pub const ABI: u32 = 3;
+pub const ABI: u32 = 4;
 
 pub const BAD_UNIT: u32 = 11;
 

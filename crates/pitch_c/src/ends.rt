@@ -7,14 +7,18 @@ ghost use Rattle.pitch_c.specs.Codes as code;
 ghost use Rattle.pitch_c.specs.Answers.{Answers, side_code};
 ghost use Rattle.pitch_c.specs.Ends.{Connects, Cuts, Hears, IsOpened, Sends, Takes, Ticks};
 ghost use Rattle.pitch_c.specs.Ends.{TellConnection, TellEndBest, TellEndOrder, TellEndStatus};
+ghost use Rattle.pitch_c.specs.Ends.{TellEndLevel, TellEndLevels, TellEndOrders, TellEndStates};
+ghost use Rattle.pitch_c.specs.Ends.{HasEndOrders, HasEndSide};
 ghost use Rattle.pitch_c.specs.Ends.{open_code, session_code, session_of};
 
-use crate::codes::{BAD_UNIT, CLOSED, IS_OPEN, NO_MEMORY, NO_SESSION, NO_SIDE, OK};
+use crate::codes::{BAD_UNIT, CLOSED, IS_OPEN, NO_MEMORY, NO_SESSION, OK};
+use crate::end_asking::{
+    tell_best, tell_level, tell_levels, tell_order, tell_orders, tell_states, tell_status,
+};
 use crate::end_handle::{End, opened, take};
 use crate::end_reports::{DatagramOut, SentOut};
 use crate::hold::hold_of;
-use crate::reports::{BestOut, OrderOut, StatusOut, best_out, order_out, status_out};
-use pitch_fields::{Side, Symbol};
+use crate::reports::{BestOut, LevelOut, OrderOut, StateOut, StatusOut};
 use sending_end::{Account, SendingEnd, Session};
 use std::alloc::Global;
 
@@ -143,30 +147,6 @@ fn tell_connection(end: &SendingEnd, session: u32, told: &mut u32) -> u32
         }
         None => NO_SESSION,
     }
-}
-
-fn tell_status(end: &SendingEnd, told: &mut StatusOut)
-    ensures { TellEndStatus end.now told.new }
-{
-    *told = status_out(end.status());
-}
-
-fn tell_best(end: &SendingEnd, symbol: &[u8; 8], side: u8, told: &mut BestOut) -> u32
-    ensures best { result ≡ code.ok → TellEndBest end.now symbol.now side told.new }
-    ensures kept { 1 ≤ result → told.new ≡ told.old }
-    ensures answer { result ≡ side_code (side_of side) code.ok }
-{
-    let Some(side) = Side::from_byte(side) else {
-        return NO_SIDE;
-    };
-    *told = best_out(end.book().best(Symbol::from_eight(*symbol), side));
-    OK
-}
-
-fn tell_order(end: &SendingEnd, id: u64, told: &mut OrderOut)
-    ensures { TellEndOrder end.now id told.new }
-{
-    *told = order_out(end.book().order(id));
 }
 
 /// Opens an end that is closed, for a unit from 1 to 255. It logs in with the account, and holds at
@@ -410,4 +390,108 @@ pub extern "C" fn pitch_c_end_order(
     tell_order(&inner, id, told);
     *end = opened(inner);
     OK
+}
+
+/// The open orders of the end's book by rising id: as many as fit, and how many there are.
+#[unsafe(no_mangle)]
+pub extern "C" fn pitch_c_end_orders(
+    alloc: Global,
+    end: &mut End,
+    told: &mut [OrderOut],
+    number: &mut u64,
+) -> u32
+    ensures orders { result ≡ code.ok → IsSomeAnd end.old.handle.value
+        (λ e. TellEndOrders e told.old told.new number.new) }
+    ensures kept { 1 ≤ result → (told.new ≡ told.old) × (number.new ≡ number.old) }
+    ensures same { end.new.handle.value ≡ end.old.handle.value }
+    ensures closed { IfNone end.old.handle.value (result ≡ code.closed) }
+    ensures answer { IfSome end.old.handle.value (λ e. Answers code.ok result) }
+    ensures memory { result ≡ code.no_memory → IsSomeAnd end.old.handle.value
+        (λ e. HasEndOrders e told.old) }
+{
+    let Some(inner) = take(alloc, end) else {
+        return CLOSED;
+    };
+    let code = tell_orders(alloc, &inner, told, number);
+    *end = opened(inner);
+    code
+}
+
+/// The trading statuses of the end's book by rising bytes of their symbols: as many as fit, and how
+/// many there are.
+#[unsafe(no_mangle)]
+pub extern "C" fn pitch_c_end_states(
+    alloc: Global,
+    end: &mut End,
+    told: &mut [StateOut],
+    number: &mut u64,
+) -> u32
+    ensures states { result ≡ code.ok → IsSomeAnd end.old.handle.value
+        (λ e. TellEndStates e told.old told.new number.new) }
+    ensures kept { 1 ≤ result → (told.new ≡ told.old) × (number.new ≡ number.old) }
+    ensures same { end.new.handle.value ≡ end.old.handle.value }
+    ensures closed { IfNone end.old.handle.value (result ≡ code.closed) }
+    ensures answer { IfSome end.old.handle.value (λ e. Answers code.ok result) }
+{
+    let Some(inner) = take(alloc, end) else {
+        return CLOSED;
+    };
+    let code = tell_states(alloc, &inner, told, number);
+    *end = opened(inner);
+    code
+}
+
+/// The levels of a symbol on a side in the end's book, the best first: as many as fit, and how many
+/// there are.
+#[unsafe(no_mangle)]
+pub extern "C" fn pitch_c_end_levels(
+    alloc: Global,
+    end: &mut End,
+    symbol: &[u8; 8],
+    side: u8,
+    told: &mut [LevelOut],
+    number: &mut u64,
+) -> u32
+    ensures levels { result ≡ code.ok → IsSomeAnd end.old.handle.value
+        (λ e. TellEndLevels e symbol.now side told.old told.new number.new) }
+    ensures kept { 1 ≤ result → (told.new ≡ told.old) × (number.new ≡ number.old) }
+    ensures same { end.new.handle.value ≡ end.old.handle.value }
+    ensures closed { IfNone end.old.handle.value (result ≡ code.closed) }
+    ensures answer { IfSome end.old.handle.value
+        (λ e. Answers (side_code (side_of side) code.ok) result) }
+    ensures memory { result ≡ code.no_memory → IsSomeAnd end.old.handle.value
+        (λ e. HasEndSide e symbol.now side) }
+{
+    let Some(inner) = take(alloc, end) else {
+        return CLOSED;
+    };
+    let code = tell_levels(alloc, &inner, symbol, side, told, number);
+    *end = opened(inner);
+    code
+}
+
+/// The shares of the open orders for a symbol on a side at a price, 0 where none is open there.
+#[unsafe(no_mangle)]
+pub extern "C" fn pitch_c_end_level(
+    alloc: Global,
+    end: &mut End,
+    symbol: &[u8; 8],
+    side: u8,
+    price: u64,
+    told: &mut LevelOut,
+) -> u32
+    ensures level { result ≡ code.ok → IsSomeAnd end.old.handle.value
+        (λ e. TellEndLevel e symbol.now side price told.new) }
+    ensures kept { 1 ≤ result → told.new ≡ told.old }
+    ensures same { end.new.handle.value ≡ end.old.handle.value }
+    ensures closed { IfNone end.old.handle.value (result ≡ code.closed) }
+    ensures answer { IfSome end.old.handle.value
+        (λ e. result ≡ side_code (side_of side) code.ok) }
+{
+    let Some(inner) = take(alloc, end) else {
+        return CLOSED;
+    };
+    let code = tell_level(&inner, symbol, side, price, told);
+    *end = opened(inner);
+    code
 }

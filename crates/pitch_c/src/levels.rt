@@ -1,26 +1,28 @@
 //! The levels of a symbol on a side, told into the caller's array, and one of them.
 
-ghost use Rattle.std.specs.Prelude.{◌≡◌, ◌≤◌, ℕ, List, IfOk, IsErr, length, map as mapped, take};
+ghost use Rattle.std.specs.Prelude.{◌≡◌, ◌≤◌, ℕ, List, [], length, map as mapped};
 ghost use Rattle.std.specs.Option.{IsSome};
 ghost use Rattle.pitch_fields.specs.Side.{side_of};
-ghost use Rattle.pitch_model.specs.History.{Entry, Raw};
-ghost use Rattle.pitch_model.specs.Book.{book_after};
-ghost use Rattle.pitch_model.specs.Levels.{best, level};
-ghost use Rattle.pitch_model.specs.Reach.{reach};
-ghost use Rattle.client_core.specs.Tracks.{Tracks, Keeps};
+ghost use Rattle.pitch_fields.specs.declared.side.Side.{Side};
+ghost use Rattle.pitch_model.specs.Book.{Book};
+ghost use Rattle.pitch_model.specs.Levels.{best};
+ghost use Rattle.client_core.specs.Client.{current_book};
 ghost use Rattle.unit_clients.specs.Clients.{client_of};
 ghost use Rattle.leveled_units.specs.BestFirst.{TellsLevels};
 ghost use Rattle.pitch_c.specs.Codes as code;
 ghost use Rattle.pitch_c.specs.Answers.{Answers, client_code, side_code};
 ghost use Rattle.pitch_c.specs.Arrays.{filled};
 ghost use Rattle.pitch_c.specs.Clients.{TellLevel, TellLevels, HasSide};
+ghost use Rattle.pitch_c.specs.Lists.{ListsLevels};
 ghost use Rattle.pitch_c.specs.Reports.{level_shown};
 
+use crate::asking::find_client;
 use crate::codes::{NO_CLIENT, NO_MEMORY, NO_SIDE, OK};
 use crate::lists::fitting;
 use crate::reports::{LevelOut, level_out};
-use leveled_units::{LevelList, LeveledUnit, LeveledUnits};
-use pitch_fields::{OutOfMemory, Price, Side, Symbol};
+use leveled_units::{LevelList, LeveledUnit, LeveledUnits, lay_best_first};
+use order_book::UnitBook;
+use pitch_fields::{Price, Side, Symbol};
 use std::alloc::Global;
 
 // Writes as many levels as fit.
@@ -33,25 +35,65 @@ fn fill_levels(levels: &[(Price, u64)], told: &mut [LevelOut])
     }
 }
 
-// Appends the levels of a symbol in a unit's book, so many at most, and answers how many there are.
-fn append_levels(
+// Tells levels of a book that were listed.
+fn write_levels(levels: &[(Price, u64)], count: usize, told: &mut [LevelOut], number: &mut u64)
+    ensures { (book : Book) (symbol : List ℕ) (side : Side)
+        → TellsLevels book symbol side (length told.old) [] levels.now count
+        → ListsLevels book symbol side told.old told.new number.new }
+{
+    fill_levels(levels, told);
+    *number = count as u64;
+}
+
+// Tells the levels of a symbol on a side, from those that are kept beside a book where they are.
+fn list_levels(
+    alloc: Global,
     client: &LeveledUnit,
     symbol: Symbol,
     side: Side,
-    most: usize,
-    levels: &mut LevelList,
-) -> Result<usize, OutOfMemory>
-    ensures levels { IfOk result (λ count. (H : ℕ) (E : List Entry) (V : List Raw)
-        → Tracks client.now H E → Keeps client.now V
-        → TellsLevels (book_after (take (reach H E) V)) symbol side most
-        levels.old.items levels.new.items count) }
-    ensures memory { IsErr result → (H : ℕ) (E : List Entry) (V : List Raw)
-        → Tracks client.now H E → Keeps client.now V
-        → IsSome (best (book_after (take (reach H E) V)) symbol side) }
+    told: &mut [LevelOut],
+    number: &mut u64,
+) -> u32
+    ensures levels { result ≡ code.ok
+        → ListsLevels (current_book client.now) symbol side told.old told.new number.new }
+    ensures kept { 1 ≤ result → (told.new ≡ told.old) × (number.new ≡ number.old) }
+    ensures answer { Answers code.ok result }
+    ensures memory { result ≡ code.no_memory
+        → IsSome (best (current_book client.now) symbol side) }
 {
-    let _reached = client.client().book();
-    let count = client.levels_best_first(symbol, side, most, levels)?;
-    Ok(count)
+    let mut levels = LevelList::make(alloc);
+    match client.levels_best_first(symbol, side, told.len(), &mut levels) {
+        Ok(count) => {
+            write_levels(levels.as_slice(), count, told, number);
+            OK
+        }
+        Err(_) => NO_MEMORY,
+    }
+}
+
+// Tells the levels of a symbol on a side, laid from the open orders of a book.
+pub(crate) fn lay_levels(
+    alloc: Global,
+    book: &UnitBook,
+    symbol: Symbol,
+    side: Side,
+    told: &mut [LevelOut],
+    number: &mut u64,
+) -> u32
+    ensures levels { result ≡ code.ok
+        → ListsLevels book.now.book symbol side told.old told.new number.new }
+    ensures kept { 1 ≤ result → (told.new ≡ told.old) × (number.new ≡ number.old) }
+    ensures answer { Answers code.ok result }
+    ensures memory { result ≡ code.no_memory → IsSome (best book.now.book symbol side) }
+{
+    let mut levels = LevelList::make(alloc);
+    match lay_best_first(alloc, book, symbol, side, told.len(), &mut levels) {
+        Ok(count) => {
+            write_levels(levels.as_slice(), count, told, number);
+            OK
+        }
+        Err(_) => NO_MEMORY,
+    }
 }
 
 pub(crate) fn tell_levels(
@@ -73,28 +115,13 @@ pub(crate) fn tell_levels(
     let Some(side) = Side::from_byte(side) else {
         return NO_SIDE;
     };
-    let Some(client) = units.unit(unit) else {
-        return NO_CLIENT;
-    };
-    let mut levels = LevelList::make(alloc);
-    let symbol = Symbol::from_eight(*symbol);
-    match append_levels(client, symbol, side, told.len(), &mut levels) {
-        Ok(count) => {
-            fill_levels(levels.as_slice(), told);
-            *number = count as u64;
-            OK
+    match find_client(units, unit) {
+        Some(client) => {
+            let symbol = Symbol::from_eight(*symbol);
+            list_levels(alloc, client, symbol, side, told, number)
         }
-        Err(_) => NO_MEMORY,
+        None => NO_CLIENT,
     }
-}
-
-// The shares of a symbol on a side at a price in a unit's book.
-fn shares_at(client: &LeveledUnit, symbol: Symbol, side: Side, price: Price) -> u64
-    ensures { (H : ℕ) (E : List Entry) (V : List Raw) → Tracks client.now H E → Keeps client.now V
-        → result ≡ level (book_after (take (reach H E) V)) symbol side price }
-{
-    let _book = client.client().book();
-    client.level(symbol, side, price)
 }
 
 pub(crate) fn tell_level(
@@ -112,10 +139,10 @@ pub(crate) fn tell_level(
     let Some(side) = Side::from_byte(side) else {
         return NO_SIDE;
     };
-    match units.unit(unit) {
+    match find_client(units, unit) {
         Some(client) => {
             let price = Price::from_long(price);
-            let shares = shares_at(client, Symbol::from_eight(*symbol), side, price);
+            let shares = client.level(Symbol::from_eight(*symbol), side, price);
             *told = level_out((price, shares));
             OK
         }

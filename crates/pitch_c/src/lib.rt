@@ -3,6 +3,7 @@
 
 mod asking;
 mod codes;
+mod end_asking;
 mod end_handle;
 mod end_reports;
 mod ends;

@@ -33,7 +33,8 @@ pub struct BestOut {
     pub spare: [u64; 5],
 }
 
-/// An open order; `there` is 0 where none of this id is open, and `side` is `B` or `S`.
+/// An open order; `there` is 0 where none of this id is open, and `side` is `B` or `S`. `display`
+/// is 1 where it is displayed, else 0, and the participant is four spaces where none is named.
 #[repr(C)]
 #[derive(Clone, Copy)]
 pub struct OrderOut {
@@ -43,7 +44,9 @@ pub struct OrderOut {
     pub quantity: u32,
     pub side: u32,
     pub symbol: [u8; 8],
-    pub spare: [u64; 3],
+    pub display: u32,
+    pub participant: [u8; 4],
+    pub spare: [u64; 2],
 }
 
 /// The trading status of a symbol: the two bytes of its message.
@@ -149,7 +152,9 @@ pub(crate) fn order_out(order: Option<Order>) -> OrderOut
             quantity: 0,
             side: 0,
             symbol: [32; 8],
-            spare: [0; 3],
+            display: 0,
+            participant: [32; 4],
+            spare: [0; 2],
         },
         Some(order) => OrderOut {
             there: 1,
@@ -158,7 +163,9 @@ pub(crate) fn order_out(order: Option<Order>) -> OrderOut
             quantity: order.quantity,
             side: u32::from(order.side.byte()),
             symbol: order.symbol.bytes(),
-            spare: [0; 3],
+            display: u32::from(order.display),
+            participant: order.participant,
+            spare: [0; 2],
         },
     }
 }

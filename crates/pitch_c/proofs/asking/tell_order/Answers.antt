@@ -1,16 +1,19 @@
-use Rattle.std.proofs.Common.{ap, sym, ◌∙◌, arith}
-use Rattle.heard_items.specs.Units.{unit_history}
+use Rattle.std.proofs.Common.{◌≡◌, ◌∙◌, sym, ap, arith}
+use Rattle.std.specs.FinMap as map
+use Rattle.pitch_model.specs.Book.{Book}
+use Rattle.client_core.specs.Client.{current_book}
 use Rattle.pitch_c.specs.Reports.{order_shown}
-use Rattle.pitch_c.proofs.Answering.{client_is}
-use Rattle.pitch_c.proofs.Telling.{tracks_there, keeps_there}
+use Rattle.pitch_c.proofs.Telling.{of_reached}
 use Rattle.pitch_c.proofs.asking.tell_order.Goals as goal
 
 pub returns-in-Some : goal.returns-in-Some
-returns-in-Some c = record {
-  order = λ zero before Image V h honest. c.order_out.ensures ∙ ap order_shown
-      (c.open_order.ensures c.args.units.now.limit (unit_history c.args.unit before) V
-      (tracks_there c.args.units.now c.args.unit c.in-Some.client.now c.in-Some.ensures.there before h)
-      (keeps_there c.args.units.now c.args.unit c.in-Some.client.now c.in-Some.ensures.there before h Image V honest));
-  kept = λ low. absurd (omega (arith, low));
-  answer = sym (client_is c.args.units.now c.args.unit c.in-Some.client.now c.in-Some.ensures.there);
-}
+returns-in-Some c =
+    let units = c.args.units.now in
+    let id = c.args.id in
+    record {
+      order = λ zero. of_reached units c.args.unit (current_book c.in-Some.client.now) (λ (book : Book). c.order_out.result ≡ order_shown (map.get book.orders id)) c.in-Some.ensures.book
+          (c.order_out.ensures ∙ ap order_shown (c.order.ensures
+          ∙ ap (λ (book : Book). map.get book.orders id) (c.book.ensures.same ∙ ap current_book c.client.ensures)));
+      kept = λ low. absurd (omega (arith, low));
+      answer = sym c.in-Some.ensures.some;
+    }

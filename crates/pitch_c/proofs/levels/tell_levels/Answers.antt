@@ -1,43 +1,33 @@
-use Rattle.std.proofs.Common.{ℕ, List, Option, map, take, length, refl, sym, subst, ap, ◌++◌, ◌∙◌}
+use Rattle.std.proofs.Common.{ℕ, List, Option, sym, subst, ◌∙◌}
 use Rattle.std.specs.Option.{IsSome, IsSomeAnd}
 use Rattle.pitch_fields.specs.declared.side.Side.{Side}
+use Rattle.pitch_model.specs.Book.{Book}
 use Rattle.pitch_model.specs.Levels.{best}
-use Rattle.heard_items.specs.Units.{unit_history}
-use Rattle.leveled_units.specs.BestFirst.{levels_of}
-use Rattle.pitch_c.specs.Arrays.{Fills}
-use Rattle.pitch_c.specs.Clients.{OfReachedBook, reached_book}
-use Rattle.pitch_c.specs.Reports.{level_shown}
-use Rattle.pitch_c.proofs.Filling.{fills_first}
-use Rattle.pitch_c.proofs.Telling.{tracks_there, keeps_there}
+use Rattle.client_core.specs.Client.{current_book}
+use Rattle.pitch_c.specs.Clients.{OfReachedBook}
+use Rattle.pitch_c.specs.Lists.{ListsLevels}
+use Rattle.pitch_c.proofs.Telling.{of_reached}
 use Rattle.pitch_c.proofs.levels.tell_levels.Goals as goal
 
-pub returns-in-Ok-clause-levels : goal.returns-in-Ok-clause-levels
-returns-in-Ok-clause-levels c zero =
+pub returns-in-Some-find_client-clause-levels : goal.returns-in-Some-find_client-clause-levels
+returns-in-Some-find_client-clause-levels c ok =
     let units = c.args.units.now in
     let unit = c.args.unit in
-    let client = c.in-Some-unit.client.now in
-    let there = c.in-Some-unit.ensures.there in
+    let book = current_book c.in-Some-find_client.client.now in
     let old = c.args.told.now in
-    let told = c.fill_levels.new.told in
-    subst (λ (o : Option Side). IsSomeAnd o (λ s. OfReachedBook units unit (λ book. Fills (map level_shown (levels_of book c.args.symbol.now s)) old told c.in-Ok.count)))
+    let told = c.list_levels.new.told in
+    let number = c.list_levels.new.number in
+    subst (λ (o : Option Side). IsSomeAnd o (λ s. OfReachedBook units unit (λ reached. ListsLevels reached c.args.symbol.now s old told number)))
     (sym c.in-Some.is ∙ c.from_byte.ensures)
-    (λ before Image V h honest.
-    let book = reached_book units unit before V in
-    let side = c.in-Some.side in
-    let tells = c.in-Ok.ensures.levels units.limit (unit_history unit before) V (tracks_there units unit client there before h) (keeps_there units unit client there before h Image V honest) in
-    let listed = c.as_slice.ensures ∙ tells.levels
-    ∙ ap (λ (l : List (ℕ × ℕ)). l ++ take (length old) (levels_of book c.from_eight-symbol.result side)) c.make-levels.ensures
-    ∙ ap (λ (b : List ℕ). take (length old) (levels_of book b side)) c.from_eight-symbol.ensures in
-    fills_first level_shown (levels_of book c.args.symbol.now side) c.as_slice.result.now old told c.in-Ok.count
-    listed c.fill_levels.ensures (tells.count_is ∙ ap (λ (b : List ℕ). length (levels_of book b side)) c.from_eight-symbol.ensures))
+    (of_reached units unit book (λ (reached : Book). ListsLevels reached c.args.symbol.now c.in-Some.side old told number) c.in-Some-find_client.ensures.book
+    (subst (λ (symbol : List ℕ). ListsLevels book symbol c.in-Some.side old told number) c.from_eight-symbol.ensures (c.list_levels.ensures.levels ok)))
 
-pub returns-clause-memory : goal.returns-clause-memory
-returns-clause-memory c = λ want.
+pub returns-in-Some-find_client-clause-memory : goal.returns-in-Some-find_client-clause-memory
+returns-in-Some-find_client-clause-memory c want =
     let units = c.args.units.now in
     let unit = c.args.unit in
-    let client = c.in-Some-unit.client.now in
-    let there = c.in-Some-unit.ensures.there in
-    subst (λ (o : Option Side). IsSomeAnd o (λ s. OfReachedBook units unit (λ book. IsSome (best book c.args.symbol.now s)))) (sym c.in-Some.is ∙ c.from_byte.ensures)
-    (λ before Image V h honest.
-    subst (λ (b : List ℕ). IsSome (best (reached_book units unit before V) b c.in-Some.side)) c.from_eight-symbol.ensures
-    (c.in-Err.ensures.memory refl units.limit (unit_history unit before) V (tracks_there units unit client there before h) (keeps_there units unit client there before h Image V honest)))
+    let book = current_book c.in-Some-find_client.client.now in
+    subst (λ (o : Option Side). IsSomeAnd o (λ s. OfReachedBook units unit (λ reached. IsSome (best reached c.args.symbol.now s))))
+    (sym c.in-Some.is ∙ c.from_byte.ensures)
+    (of_reached units unit book (λ (reached : Book). IsSome (best reached c.args.symbol.now c.in-Some.side)) c.in-Some-find_client.ensures.book
+    (subst (λ (symbol : List ℕ). IsSome (best book symbol c.in-Some.side)) c.from_eight-symbol.ensures (c.list_levels.ensures.memory want)))

@@ -1,18 +1,13 @@
-use Rattle.std.proofs.Common.{length, sym, ap, ◌∙◌}
-use Rattle.pitch_model.specs.Statuses.{statuses_of}
-use Rattle.heard_items.specs.Units.{unit_history}
-use Rattle.pitch_c.specs.Clients.{reached_book}
-use Rattle.pitch_c.specs.Reports.{state_shown}
-use Rattle.pitch_c.proofs.Filling.{fills_list}
-use Rattle.pitch_c.proofs.Telling.{tracks_there, keeps_there}
+use Rattle.std.proofs.Common.{◌∙◌, ap, subst}
+use Rattle.pitch_model.specs.Book.{Book}
+use Rattle.client_core.specs.Client.{current_book}
+use Rattle.pitch_c.specs.Lists.{ListsStates}
+use Rattle.pitch_c.proofs.Telling.{of_reached}
 use Rattle.pitch_c.proofs.lists.tell_states.Goals as goal
 
-pub returns-in-Ok-clause-states : goal.returns-in-Ok-clause-states
-returns-in-Ok-clause-states c zero before Image V h honest =
-    let units = c.args.units.now in
-    let unit = c.args.unit in
-    let client = c.in-Some.client.now in
-    let there = c.in-Some.ensures.there in
-    let are = c.in-Ok.ensures units.limit (unit_history unit before) V (tracks_there units unit client there before h) (keeps_there units unit client there before h Image V honest) in
-    fills_list state_shown (statuses_of (reached_book units unit before V)) c.as_slice.result.now c.args.told.now c.fill_states.new.told c.len.result
-    (c.as_slice.ensures ∙ are) c.fill_states.ensures (c.len.ensures ∙ ap length (sym c.as_slice.ensures))
+pub returns-in-Some-clause-states : goal.returns-in-Some-clause-states
+returns-in-Some-clause-states c ok =
+    let told = c.list_states.new.told in
+    let number = c.list_states.new.number in
+    of_reached c.args.units.now c.args.unit (current_book c.in-Some.client.now) (λ (book : Book). ListsStates book c.args.told.now told number) c.in-Some.ensures.book
+    (subst (λ (book : Book). ListsStates book c.args.told.now told number) (c.book.ensures.same ∙ ap current_book c.client.ensures) (c.list_states.ensures.states ok))

@@ -20,6 +20,7 @@ returns-clause-quoted c zero =
             ∙ ap (λ (header : Header). heard_shown header c.in-Ok.heard.change) c.header.ensures
             ∙ ap (heard_shown (header_for block)) (c.in-Ok.ensures.change before h);
         room = c.in-Ok.ensures.room;
+        others = c.in-Ok.ensures.others;
       };
       quotes_told = λ before Image V h honest.
           fills_list quote_shown (quotes_of_block units.limit V (unit_history block.unit before) block) c.as_slice.result.now c.args.quotes.now c.fill_quotes.new.told c.len.result

@@ -4,6 +4,8 @@ use Rattle.unit_clients.specs.Clients.{HaveHeard}
 use Rattle.unit_clients.specs.Tables.{with_place}
 use Rattle.unit_clients.proofs.Hearing.{table_hears, all_still}
 use Rattle.pitch_model.proofs.Results.{on_err}
+use Rattle.leveled_units.specs.Hearing.{KeepSpare}
+use Rattle.leveled_units.proofs.Spared.{others_stay, spare_kept}
 use Rattle.leveled_units.proofs.units.LeveledUnits.hear_block.Goals as goal
 
 pub returns-clause-heard : goal.returns-clause-heard
@@ -23,3 +25,17 @@ returns-in_err-change-clause-err c = rw (← c.self.view_is) (
     let slot = c.hear_at.new.slot in
     on_err ((before : List Block) → HaveHeard table before → HaveHeard (with_place table unit slot) before) c.from_residual.result
     (all_still table unit c.place_of.result.now slot c.place_of.ensures.there c.in_err-change.ensures.err))
+
+pub returns-clause-others : goal.returns-clause-others
+returns-clause-others c = rw (← c.self.view_is) (others_stay c.self.inside.units c.args.block.now.unit c.hear_at.new.slot)
+
+pub returns-in_err-change-clause-others : goal.returns-in_err-change-clause-others
+returns-in_err-change-clause-others c = rw (← c.self.view_is) (others_stay c.self.inside.units c.args.block.now.unit c.hear_at.new.slot)
+
+pub returns-in_err-change-clause-kept : goal.returns-in_err-change-clause-kept
+returns-in_err-change-clause-kept c = rw (← c.self.view_is) (
+    let table = c.self.inside.units in
+    let unit = c.args.block.now.unit in
+    let slot = c.hear_at.new.slot in
+    on_err (KeepSpare table (with_place table unit slot)) c.from_residual.result
+    (spare_kept table unit c.place_of.result.now slot c.place_of.ensures.there c.in_err-change.ensures.err))

@@ -9,6 +9,8 @@ use Rattle.pitch_model.specs.Honest.{Honest}
 use Rattle.heard_items.specs.HeardBlocks.{heard_block}
 use Rattle.heard_items.specs.Units.{unit_history}
 use Rattle.heard_items.proofs.Units.{history_same, honest_block}
+use Rattle.leveled_units.specs.Hearing.{KeepSpare}
+use Rattle.leveled_units.proofs.Spared.{others_stay, spare_kept}
 use Rattle.leveled_units.proofs.units.LeveledUnits.hear_quoted.Goals as goal
 
 pub returns-clause-heard : goal.returns-clause-heard
@@ -42,3 +44,17 @@ pub returns-clause-untold : goal.returns-clause-untold
 returns-clause-untold c = λ untold. rw (← c.self.view_is) (λ before heard.
     let unit = c.args.block.now.unit in
     rw c.limit-limit.ensures.value at c.in_ok-heard.ensures.untold untold before unit (heard.clients.each unit c.place_of.result.now c.place_of.ensures.there))
+
+pub returns-clause-others : goal.returns-clause-others
+returns-clause-others c = rw (← c.self.view_is) (others_stay c.self.inside.units c.args.block.now.unit c.hear_quoted_at.new.slot)
+
+pub returns-in_err-heard-clause-others : goal.returns-in_err-heard-clause-others
+returns-in_err-heard-clause-others c = rw (← c.self.view_is) (others_stay c.self.inside.units c.args.block.now.unit c.hear_quoted_at.new.slot)
+
+pub returns-in_err-heard-clause-kept : goal.returns-in_err-heard-clause-kept
+returns-in_err-heard-clause-kept c = rw (← c.self.view_is) (
+    let table = c.self.inside.units in
+    let unit = c.args.block.now.unit in
+    let slot = c.hear_quoted_at.new.slot in
+    on_err (KeepSpare table (with_place table unit slot)) c.from_residual.result
+    (spare_kept table unit c.place_of.result.now slot c.place_of.ensures.there c.in_err-heard.ensures.err))
